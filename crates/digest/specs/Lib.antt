@@ -1,0 +1,3 @@
+pub mod Words
+pub mod Sha1
+pub mod Running

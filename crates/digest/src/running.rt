@@ -1,0 +1,12 @@
+// A digest under way: what it holds. It is moved by feeding and ended by closing, and by nothing else: it is neither `Copy` nor `Drop`.
+ghost use Prim.Native.Nat.{_<_};
+
+pub mod calls;
+
+pub struct Sha1 {
+    words: [u32; 5],
+    buffer: [u8; 64],
+    fill: usize,
+    total: u64,
+    ghost partial: { fill < 64 },
+}

@@ -1,0 +1,112 @@
+// A digest under way: open, feed, close.
+ghost use mathlib.Core.Path.{_≡_};
+ghost use Prim.Native.Nat.{_+_, _<_};
+ghost use lib.ListN.{length};
+ghost use Rattle.digest.specs.Words.{bytesOf};
+ghost use Rattle.digest.specs.Running.{held, fresh, absorb, finish};
+use super::Sha1;
+use crate::block::compressed;
+use crate::block::compressed_all;
+
+impl Sha1 {
+    // A digest of no bytes yet.
+    pub fn open() -> Self
+        ensures { λ r. ⌜ held r ≡ fresh ⌝ }
+    {
+        Sha1 {
+            words: [0x67452301, 0xefcdab89, 0x98badcfe, 0x10325476, 0xc3d2e1f0],
+            buffer: [0; 64],
+            fill: 0,
+            total: 0,
+        }
+    }
+
+    // The digest after one more piece of the message.
+    pub fn feed(self, piece: &[u8]) -> Self
+        ensures { λ r. ⌜ held r ≡ absorb (held self) (now (piece .entry)) ⌝ }
+    {
+        let room = 64 - self.fill;
+        if piece.len() < room {
+            return self.keep(piece);
+        }
+        if room == 64 {
+            return self.take_blocks(piece);
+        }
+        self.complete(&piece[0..room]).take_blocks(&piece[room..])
+    }
+
+    // A piece that does not fill the block.
+    fn keep(self, piece: &[u8]) -> Self
+        requires { ⌜ self .fill + length (now piece) < 64 ⌝ }
+        ensures { λ r. ⌜ held r ≡ absorb (held self) (now (piece .entry)) ⌝ }
+    {
+        let Sha1 { words, mut buffer, fill, total } = self;
+        let end = fill + piece.len();
+        buffer[fill..end].copy_from_slice(piece);
+        Sha1 {
+            words,
+            buffer,
+            fill: end,
+            total: total.wrapping_add(piece.len() as u64),
+        }
+    }
+
+    // A piece that fills the block and has no byte more.
+    fn complete(self, piece: &[u8]) -> Self
+        requires { ⌜ self .fill + length (now piece) ≡ 64 ⌝ }
+        ensures empty { λ r. ⌜ r .fill ≡ 0 ⌝ }
+        ensures fed { λ r. ⌜ held r ≡ absorb (held self) (now (piece .entry)) ⌝ }
+    {
+        let Sha1 { words, mut buffer, fill, total } = self;
+        buffer[fill..64].copy_from_slice(piece);
+        Sha1 {
+            words: compressed(words, &buffer),
+            buffer,
+            fill: 0,
+            total: total.wrapping_add(piece.len() as u64),
+        }
+    }
+
+    // A piece that begins a block: its whole blocks are worked through where they lie.
+    fn take_blocks(self, piece: &[u8]) -> Self
+        requires { ⌜ self .fill ≡ 0 ⌝ }
+        ensures { λ r. ⌜ held r ≡ absorb (held self) (now (piece .entry)) ⌝ }
+    {
+        let Sha1 { words, buffer, fill, total } = self;
+        let whole = piece.len() / 64 * 64;
+        let after = Sha1 {
+            words: compressed_all(words, &piece[0..whole]),
+            buffer,
+            fill,
+            total: total.wrapping_add(whole as u64),
+        };
+        after.keep(&piece[whole..])
+    }
+
+    // The twenty bytes of the digest.
+    pub fn close(self) -> [u8; 20]
+        ensures { λ r. ⌜ r ≡ finish (held self) ⌝ }
+    {
+        let bits = self.total.wrapping_mul(8);
+        let zeros = (119 - self.fill) % 64;
+        let mut end = [0u8; 64];
+        end[0] = 0x80;
+        let padded = self.feed(&end[0..zeros + 1]).feed(&bits.to_be_bytes());
+        let Sha1 { words, buffer: _, fill: _, total: _ } = padded;
+        bytes(&words)
+    }
+}
+
+fn bytes(words: &[u32; 5]) -> [u8; 20]
+    ensures { λ r. ⌜ r ≡ bytesOf 5 (now (words .entry)) ⌝ }
+{
+    let mut out = [0u8; 20];
+    for i in 0..5 {
+        let b = words[i].to_be_bytes();
+        out[4 * i] = b[0];
+        out[4 * i + 1] = b[1];
+        out[4 * i + 2] = b[2];
+        out[4 * i + 3] = b[3];
+    }
+    out
+}

@@ -16,14 +16,19 @@ close-finishes v d e zeros bits p q r =
     ap (λ (x : Running). bytesOf 5 (x .words))
     (q ∙ (ap (λ (x : Running). absorb x bits) p ∙ (absorb-append v zeros bits ∙ ap (λ (x : List ℕ). absorb v x) r)))
 
+-- the front of a list of a one bit and n zeros, as the code cuts it
+first-zeros : (zeros n : ℕ) → zeros ≤ n → take {A = ℕ} (zeros + 1 - 0) (0x80 ∷ replicate n 0) ≡ 0x80 ∷ replicate zeros 0
+first-zeros zeros n l =
+    let s : zeros + 1 - 0 ≡ suc zeros = omega arith in
+    ap (λ (x : ℕ). take {A = ℕ} x (0x80 ∷ replicate n 0)) s ∙ ap (λ (x : List ℕ). 0x80 ∷ x) (take-replicate zeros n 0 l)
+
 pub padding-fed : (buf : List ℕ) (fill t : ℕ) (bits : List ℕ) → length buf ≡ 64 → fill < 64 → bits ≡ be64 (t * 8 % 2 ^ 64)
     → take ((119 - fill) % 64 + 1 - 0) (0x80 ∷ replicate 63 0) ++ bits ≡ padding (length (take fill buf)) t
 unfolding padding
 padding-fed buf fill t bits lb lf e =
     let k : (119 - fill) % 64 ≤ 63 = omega arith in
     let n : fill ≡ length (take fill buf) = simp length-take (omega arith) in
-    let s : (119 - fill) % 64 + 1 - 0 ≡ suc ((119 - fill) % 64) = omega arith in
-    ap (λ (x : ℕ). take x (0x80 ∷ replicate 63 0) ++ bits) s
-    ∙ (ap (λ (x : List ℕ). (0x80 ∷ x) ++ bits) (take-replicate ((119 - fill) % 64) 63 0 k)
+    let z = first-zeros ((119 - fill) % 64) 63 k in
+    ap (λ (x : List ℕ). x ++ bits) z
     ∙ (ap (λ (x : List ℕ). (0x80 ∷ replicate ((119 - fill) % 64) 0) ++ x) e
-    ∙ ap (λ (x : ℕ). (0x80 ∷ replicate ((119 - x) % 64) 0) ++ be64 (t * 8 % 2 ^ 64)) n))
+    ∙ ap (λ (x : ℕ). (0x80 ∷ replicate ((119 - x) % 64) 0) ++ be64 (t * 8 % 2 ^ 64)) n)

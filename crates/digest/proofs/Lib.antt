@@ -5,3 +5,8 @@ pub mod Blocks
 pub mod Absorbed
 pub mod Feeding
 pub mod Closing
+pub mod Joins
+pub mod Keys
+pub mod Differences
+pub mod Chained
+pub mod Computed

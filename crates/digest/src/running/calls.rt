@@ -4,6 +4,7 @@ ghost use Prim.Native.Nat.{_+_, _<_};
 ghost use lib.ListN.{length};
 ghost use Rattle.digest.specs.Words.{bytesOf};
 ghost use Rattle.digest.specs.Running.{held, fresh, absorb, finish};
+ghost use Rattle.digest.specs.Laws.{Feeding-joins, Closing-joins};
 use super::Sha1;
 use crate::block::compressed;
 use crate::block::compressed_all;
@@ -23,7 +24,8 @@ impl Sha1 {
 
     // The digest after one more piece of the message.
     pub fn feed(self, piece: &[u8]) -> Self
-        ensures { λ r. ⌜ held r ≡ absorb (held self) (now (piece .entry)) ⌝ }
+        ensures fed { λ r. ⌜ held r ≡ absorb (held self) (now (piece .entry)) ⌝ }
+        ensures joins { λ _. ⌜ Feeding-joins ⌝ }
     {
         let room = 64 - self.fill;
         if piece.len() < room {
@@ -85,7 +87,8 @@ impl Sha1 {
 
     // The twenty bytes of the digest.
     pub fn close(self) -> [u8; 20]
-        ensures { λ r. ⌜ r ≡ finish (held self) ⌝ }
+        ensures value { λ r. ⌜ r ≡ finish (held self) ⌝ }
+        ensures joins { λ _. ⌜ Closing-joins ⌝ }
     {
         let bits = self.total.wrapping_mul(8);
         let zeros = (119 - self.fill) % 64;

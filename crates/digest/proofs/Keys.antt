@@ -1,0 +1,63 @@
+-- A key's block: loaded, masked in place, and fed to the two digests of a code.
+use mathlib.Core.Path.{_≡_, refl, sym, ap, _∙_}
+use mathlib.Core.List.{List, [], _∷_, _++_, map}
+use Prim.Native.Nat.{ℕ, _+_, _-_, _<_, _≤_}
+use lib.ListN.{length, getD, take, drop, set, replicate}
+use lib.Bits.{bitXor, xor-assoc}
+use lib.Dec.{ltb}
+use native.Mathlib.Omega.{arith}
+use Rattle.std.proofs.shelf.Lists.{append-assoc, append-nil, length-map, length-take, drop-more, drop-all, drop-replicate, take-all, set-at, getD-at, map-more}
+use Rattle.std.proofs.shelf.Tests.{cond-true, cond-false, lt-ltb, le-ltb}
+use Rattle.digest.specs.Sha1.{sha1}
+use Rattle.digest.specs.Hmac.{zeroFilled, keyBlock, masked, hmac}
+
+-- a key laid over the front of zeros, as the code lays it
+pub filled : (key put : List ℕ) (n : ℕ) → put ≡ key → put ++ drop (length key - 0) (replicate n 0) ≡ key ++ replicate (n - length key) 0
+filled key put n e =
+    let m : n - (length key - 0) ≡ n - length key = omega arith in
+    ap (λ (x : List ℕ). x ++ drop (length key - 0) (replicate n 0)) e
+    ∙ ap (λ (x : List ℕ). key ++ x) (drop-replicate (length key - 0) n 0 ∙ ap (λ (k : ℕ). replicate k 0) m)
+
+pub long-key : (key short r : List ℕ) → 64 < length key → short ≡ sha1 key → r ≡ zeroFilled short → r ≡ keyBlock key
+unfolding keyBlock
+long-key key short r l e q = q ∙ (ap (λ (x : List ℕ). zeroFilled x) e ∙ sym (cond-true (ltb 64 (length key)) _ _ (lt-ltb 64 (length key) l)))
+
+pub short-key : (key r : List ℕ) → length key ≤ 64 → r ≡ zeroFilled key → r ≡ keyBlock key
+unfolding keyBlock
+short-key key r l q = q ∙ sym (cond-false (ltb 64 (length key)) _ _ (le-ltb 64 (length key) l))
+
+-- ---- a mask, byte by byte in place
+
+pub masked-more : (by : ℕ) (was bytes : List ℕ) (i : ℕ) → i < length was → bytes ≡ masked by (take i was) ++ drop i was
+    → set bytes i (bitXor (getD bytes i 0) by) ≡ masked by (take (i + 1) was) ++ drop (i + 1) was
+masked-more by was bytes i l e =
+    let done : List ℕ = masked by (take i was) in
+    let n : length (masked by (take i was)) ≡ i = simp (length-map, length-take) (omega arith) in
+    let f : bytes ≡ masked by (take i was) ++ getD was i 0 ∷ drop (i + 1) was = e ∙ ap (λ (x : List ℕ). masked by (take i was) ++ x) (drop-more was i 0 l) in
+    ap (λ (x : List ℕ). set x i (bitXor (getD x i 0) by)) f
+    ∙ (set-at done (getD was i 0) (drop (i + 1) was) _ i n
+    ∙ (ap (λ (x : ℕ). masked by (take i was) ++ bitXor x by ∷ drop (i + 1) was) (getD-at done (getD was i 0) (drop (i + 1) was) 0 i n)
+    ∙ (sym (append-assoc done (bitXor (getD was i 0) by ∷ []) (drop (i + 1) was))
+    ∙ ap (λ (x : List ℕ). x ++ drop (i + 1) was) (sym (map-more (λ (b : ℕ). bitXor b by) was i 0 l)))))
+
+pub masked-all : (by : ℕ) (was bytes : List ℕ) (i : ℕ) → length was ≤ i → bytes ≡ masked by (take i was) ++ drop i was → bytes ≡ masked by was
+masked-all by was bytes i l e =
+    e ∙ (ap (λ (x : List ℕ). masked by x ++ drop i was) (take-all i was l)
+    ∙ (ap (λ (x : List ℕ). masked by was ++ x) (drop-all i was l) ∙ append-nil (masked by was)))
+
+-- the inner pad taken off and the outer put on, at once
+pub masked-again : (block : List ℕ) → masked 0x6a (masked 0x36 block) ≡ masked 0x5c block
+masked-again [] = refl
+masked-again (b ∷ block) =
+    ap (λ (x : ℕ). x ∷ masked 0x6a (masked 0x36 block)) (xor-assoc b 0x36 0x6a)
+    ∙ ap (λ (x : List ℕ). bitXor b 0x5c ∷ x) (masked-again block)
+
+-- the code, from the block as it was at each step
+pub code-is-hmac : (key message loaded inward outward inner r : List ℕ) → loaded ≡ keyBlock key → inward ≡ masked 0x36 loaded → outward ≡ masked 0x6a inward
+    → inner ≡ sha1 (inward ++ message) → r ≡ sha1 (outward ++ inner) → r ≡ hmac key message
+unfolding hmac
+code-is-hmac key message loaded inward outward inner r a b c d e =
+    let i : inward ≡ masked 0x36 (keyBlock key) = b ∙ ap (λ (x : List ℕ). masked 0x36 x) a in
+    let o : outward ≡ masked 0x5c (keyBlock key) = c ∙ (ap (λ (x : List ℕ). masked 0x6a x) i ∙ masked-again (keyBlock key)) in
+    e ∙ (ap (λ (x : List ℕ). sha1 (x ++ inner)) o
+    ∙ ap (λ (x : List ℕ). sha1 (masked 0x5c (keyBlock key) ++ x)) (d ∙ ap (λ (x : List ℕ). sha1 (x ++ message)) i))

@@ -2,7 +2,7 @@
 ghost use mathlib.Core.Path.{_≡_};
 ghost use lib.ListN.{replicate};
 ghost use Rattle.digest.specs.Hmac.{hmac};
-use crate::code::Code;
+use crate::codes::Code;
 use crate::key_block::KeyBlock;
 use crate::key_block::KeyGuard;
 use crate::key_block::load;

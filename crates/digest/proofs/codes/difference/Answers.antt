@@ -1,5 +1,5 @@
 use Rattle.digest.proofs.Differences.{differences-none, differences-more}
-use Rattle.digest.proofs.code.difference.Needs as need
+use Rattle.digest.proofs.codes.difference.Needs as need
 
 pub loop-i-holds : need.loop-i-holds
 loop-i-holds c = differences-none (c .args .a .now) (c .args .b .now)

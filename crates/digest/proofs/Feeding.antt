@@ -1,38 +1,33 @@
--- What `feed` does to the buffer, as the laws of `absorb` have it.
+-- What `feed` does, as the laws of `absorb` have it.
 use mathlib.Core.Path.{_≡_, refl, sym, ap, _∙_}
 use mathlib.Core.List.{List, [], _∷_, _++_}
 use Prim.Native.Nat.{ℕ, _+_, _-_, _*_, _/_, _%_, _^_, _<_, _≤_}
 use native.Mathlib.Omega.{arith}
-use borrow.Rule.Slice.PartMut.{putMid}
 use lib.ListN.{length, take, drop}
-use Rattle.std.proofs.shelf.Lists.{length-take, drop-drop, drop-all, append-nil, take-append-drop, take-rest}
-use Rattle.std.proofs.shelf.Parts.{take-putMid}
+use Rattle.std.proofs.shelf.Lists.{length-take, take-append-drop, take-rest}
 use Rattle.digest.specs.Sha1.{compress, blocks}
 use Rattle.digest.specs.Running.{Running, running, absorb}
 use Rattle.digest.proofs.Absorbed.{absorb-append, absorb-part, absorb-block, absorb-blocks}
+use Rattle.digest.proofs.Buffers.{take-placed, placed-full}
 
-module _ (h buf piece put : List ℕ) (fill t : ℕ) (whole : length buf ≡ 64) (same : put ≡ piece) where
-  -- a piece laid behind the pending bytes, in a buffer with room left
-  pub keep-absorbs : (k : ℕ) → fill + length piece < 64
-      → running h (take (fill + length piece) (putMid fill k buf put)) ((t + length piece) % 2 ^ 64) ≡ absorb (running h (take fill buf) t) piece
-  keep-absorbs k l =
-      let n : fill + length piece ≡ fill + length put = ap (λ (x : List ℕ). fill + length x) (sym same) in
+module _ (h buf piece out : List ℕ) (fill t : ℕ) (whole : length buf ≡ 64) (laid : out ≡ take fill buf ++ (piece ++ drop (fill + length piece) buf)) where
+  -- a piece that leaves room in the buffer
+  pub keep-absorbs : fill + length piece < 64
+      → running h (take (fill + length piece) out) ((t + length piece) % 2 ^ 64) ≡ absorb (running h (take fill buf) t) piece
+  keep-absorbs l =
       let m : fill ≤ length buf = omega arith in
       let p : length (take fill buf) + length piece < 64 = simp length-take (omega arith) in
-      ap (λ (x : List ℕ). running h x ((t + length piece) % 2 ^ 64))
-      (take-putMid fill k buf put (fill + length piece) n m ∙ ap (λ (x : List ℕ). take fill buf ++ x) same)
+      ap (λ (x : List ℕ). running h x ((t + length piece) % 2 ^ 64)) (take-placed buf piece out fill m laid)
       ∙ sym (absorb-part h (take fill buf) piece t p)
 
   -- a piece that fills the buffer
-  pub complete-absorbs : fill + length piece ≡ 64
-      → running (compress h (putMid fill (64 - fill) buf put)) [] ((t + length piece) % 2 ^ 64) ≡ absorb (running h (take fill buf) t) piece
-  complete-absorbs l =
-      let e : length buf ≤ fill + (64 - fill) = omega arith in
+  pub complete-absorbs : (w : List ℕ) → fill + length piece ≡ 64 → w ≡ compress h out
+      → running w [] ((t + length piece) % 2 ^ 64) ≡ absorb (running h (take fill buf) t) piece
+  complete-absorbs w l e =
+      let m : length buf ≤ fill + length piece = omega arith in
       let p : length (take fill buf) + length piece ≡ 64 = simp length-take (omega arith) in
-      ap (λ (x : List ℕ). running (compress h (take fill buf ++ (put ++ x))) [] ((t + length piece) % 2 ^ 64))
-      (drop-drop (64 - fill) fill buf ∙ drop-all (fill + (64 - fill)) buf e)
-      ∙ (ap (λ (x : List ℕ). running (compress h (take fill buf ++ x)) [] ((t + length piece) % 2 ^ 64)) (append-nil put ∙ same)
-      ∙ sym (absorb-block h (take fill buf) piece t p))
+      ap (λ (x : List ℕ). running x [] ((t + length piece) % 2 ^ 64)) (e ∙ ap (λ (x : List ℕ). compress h x) (placed-full buf piece out fill m laid))
+      ∙ sym (absorb-block h (take fill buf) piece t p)
 
 -- a piece fed in two parts, as the code cuts it
 pub absorb-split : (v d r : Running) (piece : List ℕ) (n : ℕ) → d ≡ absorb v (take (n - 0) piece) → r ≡ absorb d (take (length piece - n) (drop n piece)) → r ≡ absorb v piece

@@ -11,12 +11,11 @@ use Rattle.std.proofs.shelf.Tests.{cond-true, cond-false, lt-ltb, le-ltb}
 use Rattle.digest.specs.Sha1.{sha1}
 use Rattle.digest.specs.Hmac.{zeroFilled, keyBlock, masked, hmac}
 
--- a key laid over the front of zeros, as the code lays it
-pub filled : (key put : List ℕ) (n : ℕ) → put ≡ key → put ++ drop (length key - 0) (replicate n 0) ≡ key ++ replicate (n - length key) 0
-filled key put n e =
-    let m : n - (length key - 0) ≡ n - length key = omega arith in
-    ap (λ (x : List ℕ). x ++ drop (length key - 0) (replicate n 0)) e
-    ∙ ap (λ (x : List ℕ). key ++ x) (drop-replicate (length key - 0) n 0 ∙ ap (λ (k : ℕ). replicate k 0) m)
+-- a key laid over the front of n zeros
+pub filled : (key put : List ℕ) (n k : ℕ) → put ≡ key → k ≡ length key → put ++ drop k (replicate n 0) ≡ key ++ replicate (n - length key) 0
+filled key put n k e l =
+    ap (λ (x : List ℕ). x ++ drop k (replicate n 0)) e
+    ∙ ap (λ (x : List ℕ). key ++ x) (drop-replicate k n 0 ∙ ap (λ (x : ℕ). replicate (n - x) 0) l)
 
 pub long-key : (key short r : List ℕ) → 64 < length key → short ≡ sha1 key → r ≡ zeroFilled short → r ≡ keyBlock key
 unfolding keyBlock

@@ -3,6 +3,7 @@ pub mod Schedule
 pub mod Steps
 pub mod Blocks
 pub mod Absorbed
+pub mod Buffers
 pub mod Feeding
 pub mod Closing
 pub mod Joins

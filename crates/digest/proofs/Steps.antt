@@ -1,20 +1,33 @@
 -- The steps of a round: the loop over the words of its part of the schedule, and the four rounds of a block.
 use mathlib.Core.Path.{_≡_, refl, sym, ap, _∙_}
 use mathlib.Core.List.{List, [], _∷_, _++_}
-use Prim.Native.Nat.{ℕ, _+_, _<_, _≤_}
+use Prim.Native.Nat.{ℕ, _+_, _-_, _<_, _≤_}
 use native.Mathlib.Omega.{arith}
 use lib.ListN.{length, getD, take, drop}
 use Rattle.std.proofs.shelf.Sums.{folded-more}
-use Rattle.std.proofs.shelf.Lists.{take-all}
+use Rattle.std.proofs.shelf.Lists.{length-drop, getD-drop}
 use Rattle.digest.specs.Words.{wordsOf}
 use Rattle.digest.specs.Sha1.{choose, parity, majority, step, steps, summed, schedule, grown, compress}
 use Rattle.digest.proofs.Schedule.{quarter-grown}
 
-pub steps-more : (f : ℕ → ℕ → ℕ → ℕ) (k : ℕ) (h s ws : List ℕ) (i : ℕ) (r : List ℕ) → i < length ws → s ≡ steps f k h (take i ws) → r ≡ step f k s (getD ws i 0) → r ≡ steps f k h (take (i + 1) ws)
-steps-more f k h s ws i r lt e q = q ∙ (ap (λ (x : List ℕ). step f k x (getD ws i 0)) e ∙ sym (folded-more (step f k) h ws i 0 lt))
+-- a step with word i of a list, of those from m on
+pub steps-more : (f : ℕ → ℕ → ℕ → ℕ) (k : ℕ) (h s w : List ℕ) (m i : ℕ) (r : List ℕ) → m ≤ i → i < length w → s ≡ steps f k h (take (i - m) (drop m w)) → r ≡ step f k s (getD w i 0)
+    → r ≡ steps f k h (take ((i + 1) - m) (drop m w))
+steps-more f k h s w m i r a l e q =
+    let n : i - m < length (drop m w) = simp length-drop (omega arith) in
+    let j : (i + 1) - m ≡ (i - m) + 1 = omega arith in
+    let x : m + (i - m) ≡ i = omega arith in
+    let g : getD w i 0 ≡ getD (drop m w) (i - m) 0 = sym (getD-drop m w (i - m) 0 ∙ ap (λ (y : ℕ). getD w y 0) x) in
+    q ∙ (ap (λ (y : ℕ). step f k s y) g
+    ∙ (ap (λ (y : List ℕ). step f k y (getD (drop m w) (i - m) 0)) e
+    ∙ (sym (folded-more (step f k) h (drop m w) (i - m) 0 n)
+    ∙ ap (λ (y : ℕ). steps f k h (take y (drop m w))) (sym j))))
 
-pub steps-all : (f : ℕ → ℕ → ℕ → ℕ) (k : ℕ) (h g s ws : List ℕ) (i : ℕ) → length ws ≤ i → h ≡ g → s ≡ steps f k h (take i ws) → s ≡ steps f k g ws
-steps-all f k h g s ws i le e q = q ∙ (ap (λ (x : List ℕ). steps f k x (take i ws)) e ∙ ap (λ (x : List ℕ). steps f k g x) (take-all i ws le))
+-- twenty of them
+pub steps-all : (f : ℕ → ℕ → ℕ → ℕ) (k : ℕ) (h g s w : List ℕ) (m b i : ℕ) → m ≡ b → i - m ≡ 20 → h ≡ g → s ≡ steps f k h (take (i - m) (drop m w)) → s ≡ steps f k g (take 20 (drop b w))
+steps-all f k h g s w m b i a n e q =
+    q ∙ (ap (λ (y : List ℕ). steps f k y (take (i - m) (drop m w))) e
+    ∙ (ap (λ (y : ℕ). steps f k g (take y (drop m w))) n ∙ ap (λ (y : ℕ). steps f k g (take 20 (drop y w))) a))
 
 -- five words, written out
 pub five-words : (s : List ℕ) → length s ≡ 5 → getD s 0 0 ∷ getD s 1 0 ∷ getD s 2 0 ∷ getD s 3 0 ∷ getD s 4 0 ∷ [] ≡ s

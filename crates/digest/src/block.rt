@@ -4,9 +4,11 @@ ghost use Prim.Native.Nat.{ℕ, _+_, _-_, _*_, _/_, _%_, _^_, _<_, _≤_};
 ghost use mathlib.Core.List.{List};
 ghost use lib.ListN.{length, take};
 ghost use Rattle.digest.specs.Words.{wordsOf};
-ghost use Rattle.digest.specs.Sha1.{grown, compress, blocks};
+ghost use Rattle.digest.specs.Sha1.{nextWord, grown, compress, blocks};
 use crate::round::Choose;
 use crate::round::ChooseRound;
+use crate::round::LastParity;
+use crate::round::LastParityRound;
 use crate::round::Majority;
 use crate::round::MajorityRound;
 use crate::round::Parity;
@@ -36,8 +38,16 @@ fn grow(w: &mut [u32; 80], from: usize, to: usize)
     ensures { λ _. ⌜ ((ws : List ℕ) → take (from + 16) (now (w .entry)) ≡ grown from ws → take (to + 16) (now (w .exit)) ≡ grown to ws) ⌝ }
 {
     for n in from..to {
-        w[n + 16] = (w[n + 13] ^ w[n + 8] ^ w[n + 2] ^ w[n]).rotate_left(1);
+        w[n + 16] = next_word(w, n);
     }
+}
+
+// Word 16 + n of the schedule.
+fn next_word(w: &[u32; 80], n: usize) -> u32
+    requires { ⌜ n < 64 ⌝ }
+    ensures { λ r. ⌜ r ≡ nextWord (now (w .entry)) n ⌝ }
+{
+    (w[n + 13] ^ w[n + 8] ^ w[n + 2] ^ w[n]).rotate_left(1)
 }
 
 // The five words after one block. The schedule grows between the quarters of the steps, so that a processor works on both at once.
@@ -47,13 +57,13 @@ pub(crate) fn compressed(h: [u32; 5], block: &[u8]) -> [u32; 5]
 {
     let mut w = loaded(block);
     grow(&mut w, 0, 4);
-    let s = stepped::<Choose>(h, 0x5a827999, &w[0..20]);
+    let s = stepped::<Choose>(h, &w);
     grow(&mut w, 4, 24);
-    let t = stepped::<Parity>(s, 0x6ed9eba1, &w[20..40]);
+    let t = stepped::<Parity>(s, &w);
     grow(&mut w, 24, 44);
-    let u = stepped::<Majority>(t, 0x8f1bbcdc, &w[40..60]);
+    let u = stepped::<Majority>(t, &w);
     grow(&mut w, 44, 64);
-    let v = stepped::<Parity>(u, 0xca62c1d6, &w[60..80]);
+    let v = stepped::<LastParity>(u, &w);
     [
         h[0].wrapping_add(v[0]),
         h[1].wrapping_add(v[1]),

@@ -4,9 +4,11 @@
 //     let code = key_block.code(&secret, &message);
 //     if code.agrees(&claimed) { .. }
 mod block;
+mod buffer;
 pub mod chain;
 pub mod codes;
 pub mod examples;
+pub mod export;
 pub mod hmac;
 pub mod key_block;
 pub mod message;

@@ -4,8 +4,8 @@ ghost use Prim.Native.Nat.{_<_};
 pub mod calls;
 
 pub struct Sha1 {
-    words: [u32; 5],
     buffer: [u8; 64],
+    words: [u32; 5],
     fill: usize,
     total: u64,
     ghost partial: { fill < 64 },

@@ -8,6 +8,9 @@ ghost use Rattle.digest.specs.Laws.{Feeding-joins, Closing-joins};
 use super::Sha1;
 use crate::block::compressed;
 use crate::block::compressed_all;
+use crate::buffer::bit_count;
+use crate::buffer::ended;
+use crate::buffer::placed;
 
 impl Sha1 {
     // A digest of no bytes yet.
@@ -15,8 +18,8 @@ impl Sha1 {
         ensures { λ r. ⌜ held r ≡ fresh ⌝ }
     {
         Sha1 {
-            words: [0x67452301, 0xefcdab89, 0x98badcfe, 0x10325476, 0xc3d2e1f0],
             buffer: [0; 64],
+            words: [0x67452301, 0xefcdab89, 0x98badcfe, 0x10325476, 0xc3d2e1f0],
             fill: 0,
             total: 0,
         }
@@ -42,13 +45,11 @@ impl Sha1 {
         requires { ⌜ self .fill + length (now piece) < 64 ⌝ }
         ensures { λ r. ⌜ held r ≡ absorb (held self) (now (piece .entry)) ⌝ }
     {
-        let Sha1 { words, mut buffer, fill, total } = self;
-        let end = fill + piece.len();
-        buffer[fill..end].copy_from_slice(piece);
+        let Sha1 { buffer, words, fill, total } = self;
         Sha1 {
+            buffer: placed(buffer, fill, piece),
             words,
-            buffer,
-            fill: end,
+            fill: fill + piece.len(),
             total: total.wrapping_add(piece.len() as u64),
         }
     }
@@ -59,11 +60,11 @@ impl Sha1 {
         ensures empty { λ r. ⌜ r .fill ≡ 0 ⌝ }
         ensures fed { λ r. ⌜ held r ≡ absorb (held self) (now (piece .entry)) ⌝ }
     {
-        let Sha1 { words, mut buffer, fill, total } = self;
-        buffer[fill..64].copy_from_slice(piece);
+        let Sha1 { buffer, words, fill, total } = self;
+        let full = placed(buffer, fill, piece);
         Sha1 {
-            words: compressed(words, &buffer),
-            buffer,
+            buffer: full,
+            words: compressed(words, &full),
             fill: 0,
             total: total.wrapping_add(piece.len() as u64),
         }
@@ -74,11 +75,11 @@ impl Sha1 {
         requires { ⌜ self .fill ≡ 0 ⌝ }
         ensures { λ r. ⌜ held r ≡ absorb (held self) (now (piece .entry)) ⌝ }
     {
-        let Sha1 { words, buffer, fill, total } = self;
+        let Sha1 { buffer, words, fill, total } = self;
         let whole = piece.len() / 64 * 64;
         let after = Sha1 {
-            words: compressed_all(words, &piece[0..whole]),
             buffer,
+            words: compressed_all(words, &piece[0..whole]),
             fill,
             total: total.wrapping_add(whole as u64),
         };
@@ -90,18 +91,21 @@ impl Sha1 {
         ensures value { λ r. ⌜ r ≡ finish (held self) ⌝ }
         ensures joins { λ _. ⌜ Closing-joins ⌝ }
     {
-        let bits = self.total.wrapping_mul(8);
-        let zeros = (119 - self.fill) % 64;
-        let mut end = [0u8; 64];
-        end[0] = 0x80;
-        let padded = self.feed(&end[0..zeros + 1]).feed(&bits.to_be_bytes());
-        let Sha1 { words, buffer: _, fill: _, total: _ } = padded;
-        bytes(&words)
+        let Sha1 { buffer, words, fill, total } = self;
+        let bits = bit_count(total);
+        let last = ended(buffer, fill);
+        if fill < 56 {
+            let whole = placed(last, 56, &bits);
+            return bytes(compressed(words, &whole));
+        }
+        let before = compressed(words, &last);
+        let whole = placed([0; 64], 56, &bits);
+        bytes(compressed(before, &whole))
     }
 }
 
-fn bytes(words: &[u32; 5]) -> [u8; 20]
-    ensures { λ r. ⌜ r ≡ bytesOf 5 (now (words .entry)) ⌝ }
+fn bytes(words: [u32; 5]) -> [u8; 20]
+    ensures { λ r. ⌜ r ≡ bytesOf 5 words ⌝ }
 {
     let mut out = [0u8; 20];
     for i in 0..5 {

@@ -8,8 +8,8 @@ use Rattle.digest.proofs.block.grow.Needs as need
 
 pub loop-n-again : need.loop-n-again
 loop-n-again c = (
-  length-set (c .loop-n .w) _ (c .rotate-left .result) ∙ c .loop-n .inv .0,
-  λ ws e. grown-more ws (c .loop-n .w) (c .loop-n .n) (c .rotate-left .result) (omega arith) (c .loop-n .inv .1 ws e) (c .rotate-left .ensures),
+  length-set (c .loop-n .w) _ (c .next-word .result) ∙ c .loop-n .inv .0,
+  λ ws e. grown-more ws (c .loop-n .w) (c .loop-n .n) (c .next-word .result) (omega arith) (c .loop-n .inv .1 ws e) (c .next-word .ensures),
 )
 
 pub returns : need.returns

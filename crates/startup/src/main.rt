@@ -7,18 +7,19 @@ use std::env;
 use std::io;
 
 const USAGE: &str = "\
-usage: startup [measure] [FILE...]
+usage: startup measure FILE...
+       startup measure
        startup --help
 
-measure FILE...   print the SHA-1 of each file, as sha1sum does, and then the
-                  value of a register after these digests were chained into it
-                  in order: it starts at twenty zero bytes, and each digest makes
-                  it SHA-1 of the register followed by the digest
-measure           the same for the files that parts.txt names, one to a line;
-                  parts.txt and these files are looked for in the current folder
+measure FILE...   print the SHA-1 of each file, as sha1sum does, and then the value
+                  of a register after these digests were chained into it in order:
+                  it starts at twenty zero bytes, and each digest makes it SHA-1 of
+                  the register followed by the digest
+measure           the same for the files that parts.txt in the current folder names,
+                  one to a line; startup alone does this too
 
-A file that cannot be read is named on standard error, with the reason, and left
-out of the register; the others are measured, and the status is then 1.
+A file that cannot be read is named on standard error, with the reason, and left out
+of the register. The others are measured, and the status is then 1.
 ";
 
 // The program could not do all that was asked; what was wrong is on standard error.

@@ -11,7 +11,7 @@ use text::SumLine;
 use text::SumLineDisplay;
 
 // How much of a file is held at a time.
-const PIECE: usize = 32768;
+const PIECE: usize = 8192;
 
 // The list of the parts that are measured where no file is named.
 const LIST: &str = "parts.txt";
@@ -22,12 +22,15 @@ pub fn measure_listed(rt: &LibcRuntime) -> io::Result<bool> {
         Ok(text) => text,
         Err(e) => {
             eprintln!(rt, "startup: {LIST}: {e}")?;
+            eprintln!(rt, "startup: name the files, as in startup measure FILE..., or list them in {LIST}")?;
             return Ok(false);
         }
     };
     let mut names = Vec::new(rt.alloc());
     for line in text.lines() {
-        names.push(String::from_str(rt.alloc(), line)?)?;
+        if !line.is_empty() {
+            names.push(String::from_str(rt.alloc(), line)?)?;
+        }
     }
     measure_files(rt, names.as_slice())
 }

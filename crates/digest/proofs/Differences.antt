@@ -34,10 +34,10 @@ same-below zero a b e i l = absurd (omega arith)
 same-below (suc n) a b e i l =
     let p = or-none (differences n a b) (bitXor (getD a n 0) (getD b n 0)) e in
     elim (cases-lt i n) [
-      inl k ↦ same-below n a b (p .0) i k
-    | inr k ↦
-      let s : n ≡ i = omega arith in
-      subst (λ (j : ℕ). getD a j 0 ≡ getD b j 0) s (xor-none (getD a n 0) (getD b n 0) (p .1))
+      | inl k ↦ same-below n a b (p .0) i k
+      | inr k ↦
+          let s : n ≡ i = omega arith in
+          subst (λ (j : ℕ). getD a j 0 ≡ getD b j 0) s (xor-none (getD a n 0) (getD b n 0) (p .1))
     ]
 
 none-from-self : (n : ℕ) (a : List ℕ) → differences n a a ≡ 0

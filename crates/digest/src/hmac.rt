@@ -10,6 +10,7 @@ use crate::key_block::mask;
 use crate::running::Sha1;
 
 const INNER_PAD: u8 = 0x36;
+
 const OUTER_PAD: u8 = 0x5c;
 
 impl KeyBlock {

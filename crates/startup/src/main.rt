@@ -58,7 +58,10 @@ fn run(rt: &LibcRuntime) -> io::Result<bool> {
             Ok(true)
         }
         other => {
-            eprintln!(rt, "startup: no command {other:?}; startup --help says what there is")?;
+            eprintln!(
+                rt,
+                "startup: no command {other:?}; startup --help says what there is"
+            )?;
             Ok(false)
         }
     }

@@ -22,7 +22,10 @@ pub fn measure_listed(rt: &LibcRuntime) -> io::Result<bool> {
         Ok(text) => text,
         Err(e) => {
             eprintln!(rt, "startup: {LIST}: {e}")?;
-            eprintln!(rt, "startup: name the files, as in startup measure FILE..., or list them in {LIST}")?;
+            eprintln!(
+                rt,
+                "startup: name the files, as in startup measure FILE..., or list them in {LIST}"
+            )?;
             return Ok(false);
         }
     };

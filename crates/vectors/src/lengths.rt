@@ -32,8 +32,12 @@ fn print_length(rt: &LibcRuntime, n: usize) -> io::Result<()> {
     let key_code = block.code(long.as_slice(), note.as_slice());
     let whole = Hex { bytes: &whole };
     let pieces = Hex { bytes: &pieces };
-    let message_code = Hex { bytes: &message_code.bytes };
-    let key_code = Hex { bytes: &key_code.bytes };
+    let message_code = Hex {
+        bytes: &message_code.bytes,
+    };
+    let key_code = Hex {
+        bytes: &key_code.bytes,
+    };
     println!(rt, "length {n}: {whole} {pieces} {message_code} {key_code}")
 }
 

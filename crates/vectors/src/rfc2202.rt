@@ -36,7 +36,13 @@ fn counted_key() -> [u8; 25] {
     key
 }
 
-fn print_case(rt: &LibcRuntime, block: &mut KeyBlock, case: u8, key: &[u8], message: &[u8]) -> io::Result<()> {
+fn print_case(
+    rt: &LibcRuntime,
+    block: &mut KeyBlock,
+    case: u8,
+    key: &[u8],
+    message: &[u8],
+) -> io::Result<()> {
     let code = block.code(key, message);
     let hex = Hex { bytes: &code.bytes };
     println!(rt, "RFC 2202, case {case}: {hex}")

@@ -45,7 +45,12 @@ impl Sha1 {
         requires { ⌜ self .fill + length (now piece) < 64 ⌝ }
         ensures { λ r. ⌜ held r ≡ absorb (held self) (now (piece .entry)) ⌝ }
     {
-        let Sha1 { buffer, words, fill, total } = self;
+        let Sha1 {
+            buffer,
+            words,
+            fill,
+            total,
+        } = self;
         Sha1 {
             buffer: placed(buffer, fill, piece),
             words,
@@ -60,7 +65,12 @@ impl Sha1 {
         ensures empty { λ r. ⌜ r .fill ≡ 0 ⌝ }
         ensures fed { λ r. ⌜ held r ≡ absorb (held self) (now (piece .entry)) ⌝ }
     {
-        let Sha1 { buffer, words, fill, total } = self;
+        let Sha1 {
+            buffer,
+            words,
+            fill,
+            total,
+        } = self;
         let full = placed(buffer, fill, piece);
         Sha1 {
             buffer: full,
@@ -75,7 +85,12 @@ impl Sha1 {
         requires { ⌜ self .fill ≡ 0 ⌝ }
         ensures { λ r. ⌜ held r ≡ absorb (held self) (now (piece .entry)) ⌝ }
     {
-        let Sha1 { buffer, words, fill, total } = self;
+        let Sha1 {
+            buffer,
+            words,
+            fill,
+            total,
+        } = self;
         let whole = piece.len() / 64 * 64;
         let after = Sha1 {
             buffer,
@@ -91,7 +106,12 @@ impl Sha1 {
         ensures value { λ r. ⌜ r ≡ finish (held self) ⌝ }
         ensures joins { λ _. ⌜ Closing-joins ⌝ }
     {
-        let Sha1 { buffer, words, fill, total } = self;
+        let Sha1 {
+            buffer,
+            words,
+            fill,
+            total,
+        } = self;
         let bits = bit_count(total);
         let last = ended(buffer, fill);
         if fill < 56 {

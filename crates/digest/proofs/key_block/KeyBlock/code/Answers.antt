@@ -13,5 +13,5 @@ returns c = record {
       (c .open .ensures) (c .feed .ensures .fed) (c .feed-2 .ensures .fed) (c .close-inner .ensures .value))
       (closed-two (held (c .open-2 .result)) (held (c .feed-3 .result)) (held (c .feed-4 .result)) _ (c .close-inner .result) (c .close-bytes .result)
       (c .open-2 .ensures) (c .feed-3 .ensures .fed) (c .feed-4 .ensures .fed) (c .close-bytes .ensures .value));
-  cleared = search needs
+  cleared = search needs;
 }

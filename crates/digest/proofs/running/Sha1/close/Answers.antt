@@ -22,7 +22,7 @@ returns-then-fill-lt56 c =
           ∙ (ap (λ (x : List ℕ). bytesOf 5 x) (c .compressed .ensures)
           ∙ close-one (c .args .self .words) _ (c .bit-count-bits .result) (c .args .self .fill) (c .args .self .total) f (search needs) (c .bit-count-bits .ensures)
           (c .ended-last .result) (c .placed-whole .result) (c .if-fill-lt56 .taken) (c .ended-last .ensures) (c .placed-whole .ensures));
-      joins = closing-joins
+      joins = closing-joins;
     }
 
 pub returns : need.returns
@@ -37,5 +37,5 @@ returns c =
           ∙ close-two (c .args .self .words) _ (c .bit-count-bits .result) (c .args .self .fill) (c .args .self .total) f (search needs) (c .bit-count-bits .ensures)
           (c .ended-last .result) (c .compressed-before .result) (c .placed-whole-2 .result) (c .if-fill-lt56 .left) (c .args .self .partial)
           (c .ended-last .ensures) (c .compressed-before .ensures) (c .placed-whole-2 .ensures));
-      joins = closing-joins
+      joins = closing-joins;
     }

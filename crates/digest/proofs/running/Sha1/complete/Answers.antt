@@ -10,5 +10,5 @@ returns c = record {
   empty = refl;
   fed =
       complete-absorbs (c .args .self .words) (c .args .self .buffer) (c .args .piece .now) (c .placed-full .result) (c .args .self .fill) (c .args .self .total)
-      (search needs) (c .placed-full .ensures) (c .compressed .result) (c .pre) (c .compressed .ensures)
+      (search needs) (c .placed-full .ensures) (c .compressed .result) (c .pre) (c .compressed .ensures);
 }

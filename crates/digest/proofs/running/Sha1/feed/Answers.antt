@@ -15,5 +15,5 @@ returns c = record {
   fed =
       absorb-split (held (c .args .self)) (held (c .complete .result)) (held (c .take-blocks-2 .result)) (c .args .piece .now) (64 - c .args .self .fill)
       (c .complete .ensures .fed) (c .take-blocks-2 .ensures);
-  joins = absorb-append
+  joins = absorb-append;
 }

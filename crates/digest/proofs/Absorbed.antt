@@ -1,9 +1,9 @@
 -- The laws of a digest under way: two pieces are one, and a message in pieces has the digest of the message.
 use mathlib.Core.Path.{_≡_, refl, sym, ap, _∙_}
 use mathlib.Core.List.{List, [], _∷_, _++_, append-assoc}
-use Prim.Native.Nat.{ℕ, zero, suc, _+_, _-_, _*_, _/_, _%_, _^_, _<_, _≤_}
+use Prim.Native.Nat.{ℕ, _+_, _-_, _*_, _/_, _%_, _^_, _<_, _≤_}
 use native.Mathlib.Omega.{arith}
-use lib.ListN.{length, take, drop, replicate}
+use lib.ListN.{length, drop, replicate}
 use Rattle.std.proofs.shelf.Lists.{length-append, length-drop, drop-append-le, drop-drop, drop-all, take-all}
 use Rattle.digest.specs.Words.{bytesOf, be64}
 use Rattle.digest.specs.Sha1.{compress, blocks, start, padding, sha1}

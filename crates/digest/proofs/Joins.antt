@@ -1,11 +1,11 @@
 -- Pieces joined: the laws that users of a digest under way go by.
 use mathlib.Core.Path.{_≡_, refl, sym, ap, _∙_}
 use mathlib.Core.List.{List, [], _∷_, _++_, append-assoc}
-use Prim.Native.Nat.{ℕ, _+_, _<_, _≤_}
+use Prim.Native.Nat.{ℕ, _+_, _<_}
 use lib.ListN.{length, take, getD}
 use Rattle.std.specs.Iters.{folded}
 use Rattle.std.specs.Joined.{joined}
-use Rattle.std.proofs.shelf.Lists.{append-nil, joined-more, take-more, take-all}
+use Rattle.std.proofs.shelf.Lists.{append-nil, joined-more, take-more}
 use Rattle.digest.specs.Sha1.{blocks, sha1}
 use Rattle.digest.specs.Running.{Running, fresh, absorb, finish}
 use Rattle.digest.specs.Laws.{Closing-joins}

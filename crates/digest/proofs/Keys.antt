@@ -1,6 +1,6 @@
 -- A key's block: loaded, masked in place, and fed to the two digests of a code.
 use mathlib.Core.Path.{_≡_, refl, sym, ap, _∙_}
-use mathlib.Core.List.{List, [], _∷_, _++_, map}
+use mathlib.Core.List.{List, [], _∷_, _++_}
 use Prim.Native.Nat.{ℕ, _+_, _-_, _<_, _≤_}
 use lib.ListN.{length, getD, take, drop, set, replicate}
 use lib.Bits.{bitXor, xor-assoc}

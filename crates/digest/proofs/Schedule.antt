@@ -1,11 +1,11 @@
 -- The schedule: one word more, and its quarters as it grows.
 use mathlib.Core.Path.{_≡_, refl, sym, ap, _∙_}
 use mathlib.Core.List.{List, [], _∷_, _++_}
-use Prim.Native.Nat.{ℕ, zero, suc, _+_, _*_, _<_, _≤_}
+use Prim.Native.Nat.{ℕ, zero, suc, _+_, _<_}
 use native.Mathlib.Nat.{zero-add}
 use native.Mathlib.Numerals.{add-one}
 use native.Mathlib.Omega.{arith}
-use lib.ListN.{length, getD, take, drop, set}
+use lib.ListN.{length, take, drop, set}
 use Rattle.std.proofs.shelf.Lists.{take-more-set, take-all, take-append-le, drop-take, length-push, getD-take}
 use Rattle.digest.specs.Words.{wordsOf}
 use Rattle.digest.specs.Sha1.{nextWord, grown, schedule}

@@ -1,5 +1,5 @@
 -- A digest under way, which takes its message piece by piece. Its users go by the laws of `fresh`, `absorb` and `finish` (Laws), and not by what these are.
-use mathlib.Core.List.{List, [], _∷_, _++_}
+use mathlib.Core.List.{List, [], _++_}
 use Prim.Native.Nat.{ℕ, _+_, _*_, _/_, _%_, _^_}
 use lib.ListN.{length, take, drop}
 use Rattle.digest.specs.Words.{bytesOf}

@@ -1,6 +1,5 @@
 // A block that a key is worked on in, and the guard that clears it.
 ghost use mathlib.Core.Path.{_≡_};
-ghost use mathlib.Core.List.{map};
 ghost use Prim.Native.Nat.{_≤_};
 ghost use lib.ListN.{length, replicate};
 ghost use Rattle.digest.specs.Hmac.{zeroFilled, masked, keyBlock};

@@ -1,6 +1,6 @@
 // The four rounds of SHA-1: each is twenty steps with a function and a constant of its own.
 ghost use mathlib.Core.Path.{_≡_};
-ghost use Prim.Native.Nat.{ℕ, _+_, _-_, _*_, _/_, _%_, _^_, _<_, _≤_};
+ghost use Prim.Native.Nat.{ℕ, _≤_};
 ghost use lib.ListN.{take, drop};
 ghost use Rattle.digest.specs.Sha1.{steps, choose, parity, majority};
 

@@ -1,5 +1,5 @@
 -- A name, character by character: whether one is escaped, and what is written.
-use mathlib.Core.Path.{_≡_, refl, sym, ap, subst, _∙_}
+use mathlib.Core.Path.{_≡_, sym, ap, _∙_}
 use mathlib.Core.Bool.{Bool, true, false, _||_}
 use mathlib.Core.List.{List, [], _∷_, _++_, append-assoc}
 use Prim.Native.Nat.{ℕ}
@@ -15,7 +15,7 @@ use Rattle.std.specs.Joined.{joined}
 use Rattle.std.specs.Options.{Cases, isSome}
 use Rattle.std.specs.Results.{isOk}
 use Rattle.std.specs.Text.{Utf8}
-use Rattle.std.specs.Written.{Plain, Put, Prints}
+use Rattle.std.specs.Written.{Put, Prints}
 use Rattle.std.specs.shelf.Text.{decodes}
 use Rattle.std.proofs.Writes.{put-more, put-is}
 use Rattle.std.proofs.shelf.Lists.{append-nil, joined-more, nil-from-length}

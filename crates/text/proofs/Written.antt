@@ -1,5 +1,5 @@
 -- Hexadecimal digits as they are written, a byte at a time.
-use mathlib.Core.Path.{_≡_, refl, sym, ap, _∙_}
+use mathlib.Core.Path.{_≡_, sym, ap, _∙_}
 use mathlib.Core.Bool.{true}
 use mathlib.Core.List.{List, [], _∷_, _++_, append-assoc}
 use Prim.Native.Nat.{ℕ, _+_, _/_, _%_, _<_, _≤_}
@@ -8,7 +8,6 @@ use lib.Utf8.{encode}
 use Rattle.std.specs.declared.fmt.Error.{Error}
 use Rattle.std.specs.declared.fmt.Formatter.{Formatter}
 use Rattle.std.specs.declared.result.Result.{Result}
-use Rattle.std.specs.Joined.{joined}
 use Rattle.std.specs.Results.{isOk}
 use Rattle.std.specs.Written.{Plain, Put, Prints}
 use Rattle.std.proofs.Writes.{wrote-none, put-more, put-is}

@@ -71,7 +71,7 @@ unfoldable pub blocks : ℕ → List ℕ → List ℕ → List ℕ
 blocks zero h bs = h
 blocks (suc n) h bs = blocks n (compress h (take 64 bs)) (drop 64 bs)
 
--- what is put behind a message of n bytes, whose last block has `fill` of them: a one bit, zeros, and the number of bits, of which 64 are kept
+-- what is put behind a message of n bytes, whose last block has `fill` of them: a one bit, zeros up to eight bytes before the end of a block, and the number of bits, of which 64 are kept
 unfoldable pub padding : ℕ → ℕ → List ℕ
 padding fill n = (0x80 ∷ replicate ((119 - fill) % 64) 0) ++ be64 (n * 8 % 2 ^ 64)
 

@@ -23,7 +23,8 @@ register() {
 import hashlib, sys
 register = bytes(20)
 for name in sys.argv[1:]:
-    register = hashlib.sha1(register + hashlib.sha1(open(name, "rb").read()).digest()).digest()
+    with open(name, "rb") as part:
+        register = hashlib.sha1(register + hashlib.file_digest(part, "sha1").digest()).digest()
 print("register", register.hex())
 PY
 }
@@ -40,6 +41,12 @@ for n in 0 1 55 56 63 64 65 8191 8192 8193 1000003; do
 done
 same_as_sha1sum length-*
 same_as_sha1sum /dev/null
+
+# A file that is larger than the memory that the program may have.
+truncate -s 512M large
+(ulimit -v 65536 && run 0 measure large)
+{ sha1sum large; register large; } | cmp - out || fail "a large file is not as sha1sum has it"
+rm large
 
 # Names that sha1sum escapes, and names that it leaves.
 for name in 'a b' 'a\b' $'a\nb' $'a\rb' $'a\tb' 'é' '-' '--help'; do

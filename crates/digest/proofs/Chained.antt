@@ -1,17 +1,12 @@
 -- A register's chain, one digest more.
 use mathlib.Core.Path.{_≡_, refl, sym, ap, _∙_}
-use mathlib.Core.List.{List, _++_}
+use mathlib.Core.List.{List}
 use Prim.Native.Nat.{ℕ, _+_, _<_, _≤_}
 use lib.ListN.{length, getD, take}
 use Rattle.std.proofs.shelf.Lists.{take-all}
 use Rattle.std.proofs.shelf.Sums.{folded-more}
 use lib.ListN.{replicate}
-use Rattle.digest.specs.Sha1.{sha1}
 use Rattle.digest.specs.Chain.{extended, chain}
-
-pub extends : (register digest r : List ℕ) → r ≡ sha1 (register ++ digest) → r ≡ extended register digest
-unfolding extended
-extends register digest r e = e
 
 pub chain-none : (digests : List (List ℕ)) → replicate 20 0 ≡ chain (take 0 digests)
 unfolding chain

@@ -1,5 +1,5 @@
 -- Pieces joined: the laws that users of a digest under way go by.
-use mathlib.Core.Path.{_≡_, refl, sym, ap, _∙_}
+use mathlib.Core.Path.{_≡_, refl, sym, ap, subst, _∙_}
 use mathlib.Core.List.{List, [], _∷_, _++_, append-assoc}
 use Prim.Native.Nat.{ℕ, _+_, _<_}
 use lib.ListN.{length, take, getD}
@@ -7,7 +7,8 @@ use Rattle.std.specs.Iters.{folded}
 use Rattle.std.specs.Joined.{joined}
 use Rattle.std.proofs.shelf.Lists.{append-nil, joined-more, take-more}
 use Rattle.digest.specs.Sha1.{blocks, sha1}
-use Rattle.digest.specs.Running.{Running, fresh, absorb, finish}
+use Rattle.digest.specs.declared.running.Sha1.{Sha1}
+use Rattle.digest.specs.Running.{Running, fresh, absorb, finish, held, Fed}
 use Rattle.digest.specs.Laws.{Closing-joins}
 use Rattle.digest.proofs.Absorbed.{absorb-append, finish-absorb}
 
@@ -27,24 +28,20 @@ closing-joins pieces =
     ap (λ (v : Running). finish (folded absorb v pieces)) absorb-nothing
     ∙ (ap (λ (v : Running). finish v) (absorb-joined [] pieces) ∙ finish-absorb (joined (λ p. p) pieces))
 
+-- ---- by the message that a digest was fed
+
+pub feeding-fed : (d e : Sha1) (piece : List ℕ) → held e ≡ absorb (held d) piece → (m : List ℕ) → Fed d m → Fed e (m ++ piece)
+unfolding Fed
+feeding-fed d e piece p m f = p ∙ (ap (λ (v : Running). absorb v piece) f ∙ absorb-append fresh m piece)
+
+pub closing-fed : (d : Sha1) (r : List ℕ) → r ≡ finish (held d) → (m : List ℕ) → Fed d m → r ≡ sha1 m
+unfolding Fed
+closing-fed d r p m f = p ∙ (ap (λ (v : Running). finish v) f ∙ finish-absorb m)
+
 -- one piece more of those that a loop feeds
-pub feed-more : {X : Type 0} (f : X → List ℕ) (v r : Running) (pieces : List X) (i : ℕ) (d : X) → i < length pieces
-    → v ≡ absorb fresh (joined f (take i pieces)) → r ≡ absorb v (f (getD pieces i d)) → r ≡ absorb fresh (joined f (take (i + 1) pieces))
-feed-more f v r pieces i d l e q =
-    q ∙ (ap (λ (x : Running). absorb x (f (getD pieces i d))) e
-    ∙ (absorb-append fresh (joined f (take i pieces)) (f (getD pieces i d))
-    ∙ (ap (λ (x : List ℕ). absorb fresh x) (joined-more f [] (take i pieces) (getD pieces i d))
-    ∙ ap (λ (x : List _). absorb fresh (joined f x)) (sym (take-more pieces i d l)))))
-
--- a digest that was fed a message, closed
-pub close-digests : (v : Running) (m r : List ℕ) → v ≡ absorb fresh m → r ≡ finish v → r ≡ sha1 m
-close-digests v m r e q = q ∙ (ap (λ (x : Running). finish x) e ∙ finish-absorb m)
-
--- a digest that was opened, fed a message and closed
-pub closed-one : (v w : Running) (m r : List ℕ) → v ≡ fresh → w ≡ absorb v m → r ≡ finish w → r ≡ sha1 m
-closed-one v w m r e f q = close-digests w m r (f ∙ ap (λ (x : Running). absorb x m) e) q
-
--- a digest that was opened, fed two pieces and closed
-pub closed-two : (v w x : Running) (a b r : List ℕ) → v ≡ fresh → w ≡ absorb v a → x ≡ absorb w b → r ≡ finish x → r ≡ sha1 (a ++ b)
-closed-two v w x a b r e f g q =
-    closed-one v x (a ++ b) r e (g ∙ (ap (λ (y : Running). absorb y b) f ∙ absorb-append v a b)) q
+pub feed-more : {X : Type 0} (f : X → List ℕ) (d e : Sha1) (pieces : List X) (i : ℕ) (z : X) → i < length pieces
+    → Fed d (joined f (take i pieces)) → ((m : List ℕ) → Fed d m → Fed e (m ++ f (getD pieces i z))) → Fed e (joined f (take (i + 1) pieces))
+feed-more f d e pieces i z l p q =
+    subst (λ (x : List ℕ). Fed e x)
+    (joined-more f [] (take i pieces) (getD pieces i z) ∙ ap (λ (x : List _). joined f x) (sym (take-more pieces i z l)))
+    (q (joined f (take i pieces)) p)

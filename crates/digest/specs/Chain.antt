@@ -6,7 +6,7 @@ use Rattle.std.specs.Iters.{folded}
 use Rattle.digest.specs.Sha1.{sha1}
 
 -- a register after one digest more
-unfoldable pub extended : List ℕ → List ℕ → List ℕ
+abbrev pub extended : List ℕ → List ℕ → List ℕ
 extended register digest = sha1 (register ++ digest)
 
 -- a register that began at twenty zeros, after these digests in order

@@ -1,4 +1,5 @@
--- A digest under way, which takes its message piece by piece. Its users go by the laws of `fresh`, `absorb` and `finish` (Laws), and not by what these are.
+-- A digest under way, which takes its message piece by piece. Its users go by the laws of `fresh`, `absorb` and `finish`, or by what it was `Fed`, and not by what these are.
+use mathlib.Core.Path.{_≡_}
 use mathlib.Core.List.{List, [], _++_}
 use Prim.Native.Nat.{ℕ, _+_, _*_, _/_, _%_, _^_}
 use lib.ListN.{length, take, drop}
@@ -34,3 +35,7 @@ finish v = bytesOf 5 (absorb v (padding (length (v .pending)) (v .total)) .words
 -- what the struct stands for: what lies in its buffer past the fill means nothing
 unfoldable pub held : Sha1 → Running
 held d = running (d .words) (take (d .fill) (d .buffer)) (d .total)
+
+-- a digest that was opened and then fed a message, in whatever pieces
+unfoldable pub Fed : Sha1 → List ℕ → Type 0
+Fed d m = held d ≡ absorb fresh m

@@ -1,9 +1,11 @@
 // A digest under way: open, feed, close.
 ghost use mathlib.Core.Path.{_≡_};
-ghost use Prim.Native.Nat.{_+_, _<_};
+ghost use mathlib.Core.List.{List, [], _++_};
+ghost use Prim.Native.Nat.{ℕ, _+_, _<_};
 ghost use lib.ListN.{length};
 ghost use Rattle.digest.specs.Words.{bytesOf};
-ghost use Rattle.digest.specs.Running.{held, fresh, absorb, finish};
+ghost use Rattle.digest.specs.Sha1.{sha1};
+ghost use Rattle.digest.specs.Running.{held, fresh, absorb, finish, Fed};
 ghost use Rattle.digest.specs.Laws.{Feeding-joins, Closing-joins};
 use super::Sha1;
 use crate::block::compressed;
@@ -15,7 +17,8 @@ use crate::buffer::placed;
 impl Sha1 {
     // A digest of no bytes yet.
     pub fn open() -> Self
-        ensures { λ r. ⌜ held r ≡ fresh ⌝ }
+        ensures value { λ r. ⌜ held r ≡ fresh ⌝ }
+        ensures fed { λ r. ⌜ Fed r [] ⌝ }
     {
         Sha1 {
             buffer: [0; 64],
@@ -27,7 +30,8 @@ impl Sha1 {
 
     // The digest after one more piece of the message.
     pub fn feed(self, piece: &[u8]) -> Self
-        ensures fed { λ r. ⌜ held r ≡ absorb (held self) (now (piece .entry)) ⌝ }
+        ensures value { λ r. ⌜ held r ≡ absorb (held self) (now (piece .entry)) ⌝ }
+        ensures fed { λ r. ⌜ ((m : List ℕ) → Fed self m → Fed r (m ++ now (piece .entry))) ⌝ }
         ensures joins { λ _. ⌜ Feeding-joins ⌝ }
     {
         let room = 64 - self.fill;
@@ -104,6 +108,7 @@ impl Sha1 {
     // The twenty bytes of the digest.
     pub fn close(self) -> [u8; 20]
         ensures value { λ r. ⌜ r ≡ finish (held self) ⌝ }
+        ensures digest { λ r. ⌜ ((m : List ℕ) → Fed self m → r ≡ sha1 m) ⌝ }
         ensures joins { λ _. ⌜ Closing-joins ⌝ }
     {
         let Sha1 {

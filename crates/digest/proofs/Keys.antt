@@ -3,7 +3,7 @@ use mathlib.Core.Path.{_≡_, refl, sym, ap, _∙_}
 use mathlib.Core.List.{List, [], _∷_, _++_}
 use Prim.Native.Nat.{ℕ, _+_, _-_, _<_, _≤_}
 use lib.ListN.{length, getD, take, drop, set, replicate}
-use lib.Bits.{bitXor, xor-assoc}
+use lib.Bits.{bitXor, xor-assoc, xor-self, xor-zero-r}
 use lib.Dec.{ltb}
 use native.Mathlib.Omega.{arith}
 use Rattle.std.proofs.shelf.Lists.{append-assoc, append-nil, length-map, length-take, drop-more, drop-all, drop-replicate, take-all, set-at, getD-at, map-more}
@@ -44,19 +44,17 @@ masked-all by was bytes i l e =
     e ∙ (ap (λ (x : List ℕ). masked by x ++ drop i was) (take-all i was l)
     ∙ (ap (λ (x : List ℕ). masked by was ++ x) (drop-all i was l) ∙ append-nil (masked by was)))
 
--- the inner pad taken off and the outer put on, at once
-pub masked-again : (block : List ℕ) → masked 0x6a (masked 0x36 block) ≡ masked 0x5c block
-masked-again [] = refl
-masked-again (b ∷ block) =
-    ap (λ (x : ℕ). x ∷ masked 0x6a (masked 0x36 block)) (xor-assoc b 0x36 0x6a)
-    ∙ ap (λ (x : List ℕ). bitXor b 0x5c ∷ x) (masked-again block)
+-- a mask that is put on twice is taken off
+pub masked-twice : (by : ℕ) (block : List ℕ) → masked by (masked by block) ≡ block
+masked-twice by [] = refl
+masked-twice by (b ∷ block) =
+    ap (λ (x : ℕ). x ∷ masked by (masked by block)) (xor-assoc b by by ∙ (ap (λ (x : ℕ). bitXor b x) (xor-self by) ∙ xor-zero-r b))
+    ∙ ap (λ (x : List ℕ). b ∷ x) (masked-twice by block)
 
--- the code, from the block as it was at each step
-pub code-is-hmac : (key message loaded inward outward inner r : List ℕ) → loaded ≡ keyBlock key → inward ≡ masked 0x36 loaded → outward ≡ masked 0x6a inward
-    → inner ≡ sha1 (inward ++ message) → r ≡ sha1 (outward ++ inner) → r ≡ hmac key message
+-- the code, from the loaded block and the two digests
+pub code-is-hmac : (key message block after inner r : List ℕ) → block ≡ keyBlock key → after ≡ block
+    → inner ≡ sha1 (masked 0x36 block ++ message) → r ≡ sha1 (masked 0x5c after ++ inner) → r ≡ hmac key message
 unfolding hmac
-code-is-hmac key message loaded inward outward inner r a b c d e =
-    let i : inward ≡ masked 0x36 (keyBlock key) = b ∙ ap (λ (x : List ℕ). masked 0x36 x) a in
-    let o : outward ≡ masked 0x5c (keyBlock key) = c ∙ (ap (λ (x : List ℕ). masked 0x6a x) i ∙ masked-again (keyBlock key)) in
-    e ∙ (ap (λ (x : List ℕ). sha1 (x ++ inner)) o
-    ∙ ap (λ (x : List ℕ). sha1 (masked 0x5c (keyBlock key) ++ x)) (d ∙ ap (λ (x : List ℕ). sha1 (x ++ message)) i))
+code-is-hmac key message block after inner r a b c d =
+    d ∙ (ap (λ (x : List ℕ). sha1 (masked 0x5c x ++ inner)) (b ∙ a)
+    ∙ ap (λ (x : List ℕ). sha1 (masked 0x5c (keyBlock key) ++ x)) (c ∙ ap (λ (x : List ℕ). sha1 (masked 0x36 x ++ message)) a))

@@ -1,7 +1,9 @@
 // HMAC-SHA-1, worked out in a key block that the caller lends.
 ghost use mathlib.Core.Path.{_≡_};
+ghost use mathlib.Core.List.{_++_};
 ghost use lib.ListN.{replicate};
-ghost use Rattle.digest.specs.Hmac.{hmac};
+ghost use Rattle.digest.specs.Sha1.{sha1};
+ghost use Rattle.digest.specs.Hmac.{masked, hmac};
 use crate::codes::Code;
 use crate::key_block::KeyBlock;
 use crate::key_block::KeyGuard;
@@ -21,10 +23,19 @@ impl KeyBlock {
     {
         let guard = KeyGuard { block: self };
         load(guard.block, key);
-        mask(guard.block, INNER_PAD);
-        let inner = Sha1::open().feed(&guard.block.bytes).feed(message).close();
-        mask(guard.block, INNER_PAD ^ OUTER_PAD);
-        let bytes = Sha1::open().feed(&guard.block.bytes).feed(&inner).close();
+        let inner = masked_digest(guard.block, INNER_PAD, message);
+        let bytes = masked_digest(guard.block, OUTER_PAD, &inner);
         Code { bytes }
     }
+}
+
+// SHA-1 of the block under a mask and then a message. The block is masked in place, and the mask is taken off again.
+fn masked_digest(block: &mut KeyBlock, by: u8, message: &[u8]) -> [u8; 20]
+    ensures value { λ r. ⌜ r ≡ sha1 (masked by (now (block .entry) .bytes) ++ now (message .entry)) ⌝ }
+    ensures same { λ _. ⌜ now (block .exit) .bytes ≡ now (block .entry) .bytes ⌝ }
+{
+    mask(block, by);
+    let digest = Sha1::open().feed(&block.bytes).feed(message).close();
+    mask(block, by);
+    digest
 }

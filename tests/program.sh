@@ -36,7 +36,7 @@ same_as_sha1sum() {
 }
 
 # Lengths around a block, around the piece that is read at a time, and larger.
-for n in 0 1 55 56 63 64 65 8191 8192 8193 1000003; do
+for n in 0 1 55 56 63 64 65 16383 16384 16385 1000003; do
     head -c "$n" /dev/urandom >"length-$n"
 done
 same_as_sha1sum length-*

@@ -11,7 +11,7 @@ use text::SumLine;
 use text::SumLineDisplay;
 
 // How much of a file is held at a time.
-const PIECE: usize = 8192;
+const PIECE: usize = 16384;
 
 // The list of the parts that are measured where no file is named.
 const LIST: &str = "parts.txt";

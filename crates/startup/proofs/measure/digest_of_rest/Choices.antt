@@ -3,4 +3,4 @@ use lib.ListN.{length}
 use Rattle.startup.proofs.measure.digest_of_rest.Given as given
 
 abbrev pub Inv-loop : given.InvT-loop
-Inv-loop l = length (l .piece) ≡ 8192
+Inv-loop l = length (l .piece) ≡ 16384

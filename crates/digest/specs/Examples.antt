@@ -1,4 +1,4 @@
--- The examples of FIPS 180 whose digests the checker works out.
+-- Two digests that the checker works out: of "abc", as FIPS 180 prints it, and of the empty message.
 use mathlib.Core.Path.{_≡_}
 use mathlib.Core.List.{List, [], _++_}
 use Prim.Native.Nat.{ℕ}

@@ -3,12 +3,13 @@
 //     let digest = Sha1::open().feed(b"ab").feed(b"c").close();
 //     let code = key_block.code(&secret, &message);
 //     if code.agrees(&claimed) { .. }
+#![tactic(auto)]
+
 mod block;
 mod buffer;
 pub mod chain;
 pub mod codes;
 pub mod examples;
-pub mod export;
 pub mod hmac;
 pub mod key_block;
 pub mod message;

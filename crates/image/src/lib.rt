@@ -3,6 +3,8 @@
 //     let mut store = CellImage::new(bytes);
 //     store.write(2, &digest)?;
 //     let bytes = store.into_bytes();
+#![tactic(auto)]
+
 pub mod cell_image;
 pub mod examples;
 pub mod kinds;
@@ -11,5 +13,4 @@ pub mod strip_image;
 
 pub use cell_image::CellImage;
 pub use kinds::{Kind, kind_of};
-use store::Store;
 pub use strip_image::StripImage;

@@ -1,4 +1,6 @@
 // Calls stores and piles of them in many ways, and prints each answer. What it must write was worked out by a model in Python (tests/stores.py).
+#![tactic(auto)]
+
 mod exercise;
 mod images;
 mod layers;

@@ -1,4 +1,6 @@
 // What a mechanic runs on the parts of a groomer's controller. `startup --help` says what there is.
+#![tactic(auto)]
+
 mod images;
 mod measure;
 

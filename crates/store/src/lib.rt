@@ -3,6 +3,8 @@
 //     let mut store = Window::new(WearGuard::new(below, 100), 2, 4);
 //     store.write(0, &digest)?;
 //     let below = store.into_below().into_below();
+#![tactic(auto)]
+
 pub mod cell;
 pub mod interface;
 pub mod reading;

@@ -1,4 +1,6 @@
 // Text that the programs write.
+#![tactic(auto)]
+
 pub mod hex;
 pub mod sum_line;
 

@@ -1,4 +1,6 @@
 // Digests and codes of known messages, one to a line. What it must write was worked out by Python's hashlib and hmac (tests/expected.py).
+#![tactic(auto)]
+
 mod fips180;
 mod lengths;
 mod rfc2202;

@@ -2,7 +2,7 @@
 ghost use Rattle.std.specs.Prelude.{◌≡◌};
 ghost use Rattle.digest.specs.Sha1.{sha1};
 
-use crate::message::digest_of;
+use digest::digest_of;
 
 #[unsafe(no_mangle)]
 pub extern "C" fn welluthan_sha1(message: &[u8], digest: &mut [u8; 20])

@@ -1,0 +1,4 @@
+// The digest library for programs in C.
+#![tactic(auto)]
+
+pub mod export;

@@ -5,8 +5,8 @@ use Rattle.digest.proofs.block.grow.Goals as goal
 
 pub loop-n-preserved : goal.loop-n-preserved
 loop-n-preserved c = (
-  length-set c.loop-n.w _ c.next-word.result ∙ c.loop-n.invariant.0,
-  λ ws e. grown_more ws c.loop-n.w c.loop-n.n c.next-word.result (omega arith) (c.loop-n.invariant.1 ws e) c.next-word.ensures,
+  length-set c.loop-n.w _ c.next_word.result ∙ c.loop-n.invariant.0,
+  λ ws e. grown_more ws c.loop-n.w c.loop-n.n c.next_word.result (omega arith) (c.loop-n.invariant.1 ws e) c.next_word.ensures,
 )
 
 pub returns : goal.returns

@@ -8,8 +8,8 @@ loop-i-init c = (refl, words_none c.args.block.now)
 
 pub loop-i-preserved : goal.loop-i-preserved
 loop-i-preserved c = (
-  length-set c.loop-i.w c.loop-i.i c.from-be-bytes.result ∙ c.loop-i.invariant.0,
-  words_more c.args.block.now c.loop-i.w c.loop-i.i _ (omega arith) c.loop-i.invariant.1 c.from-be-bytes.ensures,
+  length-set c.loop-i.w c.loop-i.i c.from_be_bytes.result ∙ c.loop-i.invariant.0,
+  words_more c.args.block.now c.loop-i.w c.loop-i.i _ (omega arith) c.loop-i.invariant.1 c.from_be_bytes.ensures,
 )
 
 pub returns : goal.returns

@@ -14,7 +14,7 @@ returns-then-fill-lt56 c =
     let e =
     c.bytes.ensures
     ∙ (ap (λ (x : List ℕ). bytes_of 5 x) c.compressed.ensures
-    ∙ close_one c.args.self.words _ c.bit-count-bits.result c.args.self.fill c.args.self.total f (search rules) c.bit-count-bits.ensures
+    ∙ close_one c.args.self.words _ c.bit_count-bits.result c.args.self.fill c.args.self.total f (search rules) c.bit_count-bits.ensures
     c.ended-last.result c.placed-whole.result c.if-fill-lt56.true c.ended-last.ensures c.placed-whole.ensures) in
     record { value = e; digest = closing_fed c.args.self c.bytes.result e; joins = closing_joins }
 
@@ -26,7 +26,7 @@ returns c =
     let e =
     c.bytes-2.ensures
     ∙ (ap (λ (x : List ℕ). bytes_of 5 x) c.compressed-2.ensures
-    ∙ close_two c.args.self.words _ c.bit-count-bits.result c.args.self.fill c.args.self.total f (search rules) c.bit-count-bits.ensures
+    ∙ close_two c.args.self.words _ c.bit_count-bits.result c.args.self.fill c.args.self.total f (search rules) c.bit_count-bits.ensures
     c.ended-last.result c.compressed-before.result c.placed-whole-2.result c.if-fill-lt56.false c.args.self.partial
     c.ended-last.ensures c.compressed-before.ensures c.placed-whole-2.ensures) in
     record { value = e; digest = closing_fed c.args.self c.bytes-2.result e; joins = closing_joins }

@@ -8,6 +8,6 @@ unfolding held
 returns c = record {
   empty = refl;
   fed =
-      complete_absorbs c.args.self.words c.args.self.buffer c.args.piece.now c.placed_full.result c.args.self.fill c.args.self.total
-      (search rules) c.placed_full.ensures c.compressed.result c.requires c.compressed.ensures;
+      complete_absorbs c.args.self.words c.args.self.buffer c.args.piece.now c.placed-full.result c.args.self.fill c.args.self.total
+      (search rules) c.placed-full.ensures c.compressed.result c.requires c.compressed.ensures;
 }

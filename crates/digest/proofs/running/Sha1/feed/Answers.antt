@@ -14,18 +14,18 @@ returns-then-piece-room c = record {
 
 pub returns-then-room-eq64 : goal.returns-then-room-eq64
 returns-then-room-eq64 c = record {
-  value = c.take-blocks.ensures;
-  fed = feeding_fed c.args.self c.take-blocks.result c.args.piece.now c.take-blocks.ensures;
+  value = c.take_blocks.ensures;
+  fed = feeding_fed c.args.self c.take_blocks.result c.args.piece.now c.take_blocks.ensures;
   joins = absorb-append;
 }
 
 pub returns : goal.returns
 returns c =
     let e =
-    absorb_split (held c.args.self) (held c.complete.result) (held c.take-blocks-2.result) c.args.piece.now (64 - c.args.self.fill)
-    c.complete.ensures.fed c.take-blocks-2.ensures in
+    absorb_split (held c.args.self) (held c.complete.result) (held c.take_blocks-2.result) c.args.piece.now (64 - c.args.self.fill)
+    c.complete.ensures.fed c.take_blocks-2.ensures in
     record {
       value = e;
-      fed = feeding_fed c.args.self c.take-blocks-2.result c.args.piece.now e;
+      fed = feeding_fed c.args.self c.take_blocks-2.result c.args.piece.now e;
       joins = absorb-append;
     }

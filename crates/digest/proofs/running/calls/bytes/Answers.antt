@@ -8,7 +8,7 @@ loop-i-init c = (refl, bytes_none c.args.words)
 pub loop-i-preserved : goal.loop-i-preserved
 loop-i-preserved c = (
   simp length-set c.loop-i.invariant.0,
-  bytes_more c.args.words c.loop-i.out c.to-be-bytes-b.result c.loop-i.i (omega arith) c.to-be-bytes-b.ensures c.loop-i.invariant.1,
+  bytes_more c.args.words c.loop-i.out c.to_be_bytes-b.result c.loop-i.i (omega arith) c.to_be_bytes-b.ensures c.loop-i.invariant.1,
 )
 
 pub returns : goal.returns

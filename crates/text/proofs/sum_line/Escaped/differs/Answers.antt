@@ -8,7 +8,7 @@ use Rattle.text.proofs.sum_line.Escaped.differs.Goals as goal
 pub loop-c-init : goal.loop-c-init
 loop-c-init c =
     let u : IsUtf8 c.args.self.now.name.now = search rules in
-    let e = chars_begin c.args.self.now.name.now c.chars-c-items.result c.into-iter-c-iterator.result c.into-iter-c-iterator.ensures.into-iter-gives c.chars-c-items.ensures.rest in
+    let e = chars_begin c.args.self.now.name.now c.chars-c-items.result c.into_iter-c-iterator.result c.into_iter-c-iterator.ensures.into_iter_gives c.chars-c-items.ensures.rest in
     (tt, tt, subst IsUtf8 e u, ap (λ (x : List ℕ). any_escaped (chars x)) e)
 
 pub loop-c-preserved : goal.loop-c-preserved
@@ -17,7 +17,7 @@ loop-c-preserved c = (
   tt,
   IsUtf8-past_char c.loop-c.c-iterator.rest.now c.next.new.self.rest.now c.in-Some.c c.loop-c.invariant.2 c.in-Some.ensures.steps.0,
   any_later (chars c.args.self.now.name.now) c.loop-c.c-iterator.rest.now c.next.new.self.rest.now c.in-Some.c c.loop-c.invariant.2 c.in-Some.ensures.steps.0
-      (escape_tells c.escape.result _ false _ _ c.escape.ensures c.if-is-some.ensures) c.loop-c.invariant.3,
+      (escape_tells c.escape.result _ false _ _ c.escape.ensures c.if-is_some.ensures) c.loop-c.invariant.3,
 )
 
 pub returns-then-is-some : goal.returns-then-is-some

@@ -11,8 +11,8 @@ loop-cell-preserved g c =
     let cs = g.S.Store.cells c.args.store.now in
     let k = c.loop-cell.cell in
     let h : k < length cs = omega (arith, c.count-count.ensures.answer) in
-    let q = c.in-ok-into.ensures in
-    let e : c.in-ok-into.field-0 ≡ at cs k = grind (arith, nat_tests) in
+    let q = c.in_ok-into.ensures in
+    let e : c.in_ok-into.field-0 ≡ at cs k = grind (arith, nat_tests) in
     ap (λ (x : Cell). set c.loop-cell.into k x) e
     ∙ ap (λ (x : List Cell). set x k (at cs k)) c.loop-cell.invariant
     ∙ halfway_more k cs c.args.into.now none h (omega arith)

@@ -8,6 +8,6 @@ pub returns : goal.returns
 returns c =
     let n = c.args.cells in
     let writes = c.args.writes in
-    let e = c.in-ok-bytes.ensures ∙ ap (λ (x : ℕ). blank n 20 writes x) c.from.ensures in
+    let e = c.in_ok-bytes.ensures ∙ ap (λ (x : ℕ). blank n 20 writes x) c.from.ensures in
     let new = new_cells_are n writes in
     record { bytes = e; image = ap is_cell_image e ∙ new.0; shown = ap cell_image e ∙ new.1 }

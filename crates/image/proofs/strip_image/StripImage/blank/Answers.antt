@@ -7,13 +7,13 @@ use Rattle.image.proofs.strip_image.StripImage.blank.Goals as goal
 made : (bs : List ℕ) (n writes a b : ℕ) → bs ≡ blank n writes 0 (a * b) → a ≡ n → b ≡ writes → bs ≡ new_strips n writes
 made bs n writes a b e f g = e ∙ ap (λ (x : ℕ). blank n writes 0 (x * b)) f ∙ ap (λ (x : ℕ). blank n writes 0 (n * x)) g
 
-pub invariant-of-result : goal.invariant-of-result
-invariant-of-result c =
-    let e = made _ c.args.cells c.args.writes _ _ c.in-ok-bytes.ensures c.from.ensures c.from-2.ensures in
+pub invariant_of-result : goal.invariant_of-result
+invariant_of-result c =
+    let e = made _ c.args.cells c.args.writes _ _ c.in_ok-bytes.ensures c.from.ensures c.from-2.ensures in
     (sym (ap is_strip_image e ∙ (new_strips_are c.args.cells c.args.writes).0), tt)
 
 pub returns : goal.returns
 returns c =
-    let e = made _ c.args.cells c.args.writes _ _ c.in-ok-bytes.ensures c.from.ensures c.from-2.ensures in
+    let e = made _ c.args.cells c.args.writes _ _ c.in_ok-bytes.ensures c.from.ensures c.from-2.ensures in
     let new = new_strips_are c.args.cells c.args.writes in
     record { bytes = e; image = ap is_strip_image e ∙ new.0; shown = ap strip_image e ∙ new.1 }

@@ -3,8 +3,8 @@ use Rattle.image.specs.Bytes.{count_in, second_in, number}
 use Rattle.image.proofs.StripImages.{strips_count, strips_used, strips_fit}
 use Rattle.image.proofs.strip_image.calls.copy_newest.Goals as goal
 
-pub copy-value-requires : goal.copy-value-requires
-copy-value-requires c =
+pub copy_value-requires : goal.copy_value-requires
+copy_value-requires c =
     let bs = c.args.bytes.now in
     let k = c.args.cell in
     let h = c.requires.0 in

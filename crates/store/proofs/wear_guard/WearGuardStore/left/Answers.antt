@@ -9,11 +9,11 @@ of-requires g c =
     let e = length-guard w.allowances.rest (g.S.Store.cells w.below) in
     omega arith
 
-pub returns-in-err-left : goal.returns-in-err-left
-returns-in-err-left g c =
+pub returns-in_err-left : goal.returns-in_err-left
+returns-in_err-left g c =
     let w = c.args.self.now in
     let e = length-guard w.allowances.rest (g.S.Store.cells w.below) in
-    let q = c.in-err-left.ensures in
+    let q = c.in_err-left.ensures in
     grind (arith, nat_tests)
 
 pub returns : goal.returns
@@ -23,5 +23,5 @@ returns g c =
     let e = length-guard w.allowances.rest cs in
     let h : c.args.cell < min 32 (length cs) = omega arith in
     let a = at-guard w.allowances.rest cs c.args.cell h in
-    let q = c.in-ok-left.ensures in
+    let q = c.in_ok-left.ensures in
     grind (arith, nat_tests)

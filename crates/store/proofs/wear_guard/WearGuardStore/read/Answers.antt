@@ -9,7 +9,7 @@ returns g c =
     let w = c.args.self.now in
     let cs = g.S.Store.cells w.below in
     let e = length-guard w.allowances.rest cs in
-    let q = fits c.count.result c.args.cell _ _ c.in-ok-fit.ensures in
+    let q = fits c.count.result c.args.cell _ _ c.in_ok-fit.ensures in
     let h : c.args.cell < min 32 (length cs) = omega arith in
     let a = at-guard w.allowances.rest cs c.args.cell h in
     record { answer = grind (arith, nat_tests); bytes = grind (arith, nat_tests) }

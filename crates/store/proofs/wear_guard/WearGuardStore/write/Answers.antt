@@ -9,14 +9,14 @@ pub of-requires : goal.of-requires
 of-requires g c =
     let w = c.args.self.now in
     let e = length-guard w.allowances.rest (g.S.Store.cells w.below) in
-    let q = fits c.count.result c.args.cell _ _ c.in-ok-fit.ensures in
+    let q = fits c.count.result c.args.cell _ _ c.in_ok-fit.ensures in
     omega arith
 
 pub spend-requires : goal.spend-requires
 spend-requires g c =
     let w = c.args.self.now in
     let e = length-guard w.allowances.rest (g.S.Store.cells w.below) in
-    let q = fits c.count.result c.args.cell _ _ c.in-ok-fit.ensures in
+    let q = fits c.count.result c.args.cell _ _ c.in_ok-fit.ensures in
     omega arith
 
 pub returns-then-of-eq0 : goal.returns-then-of-eq0
@@ -24,7 +24,7 @@ returns-then-of-eq0 g c =
     let w = c.args.self.now in
     let cs = g.S.Store.cells w.below in
     let e = length-guard w.allowances.rest cs in
-    let q = fits c.count.result c.args.cell _ _ c.in-ok-fit.ensures in
+    let q = fits c.count.result c.args.cell _ _ c.in_ok-fit.ensures in
     let h : c.args.cell < min 32 (length cs) = omega arith in
     let a = at-guard w.allowances.rest cs c.args.cell h in
     record { answer = grind (arith, nat_tests); after = grind (arith, nat_tests); settled = λ _. refl; inside = refl }
@@ -39,7 +39,7 @@ returns-in-Ok g c =
     let k = c.args.cell in
     let v = c.args.from.now in
     let e = length-guard rest cs in
-    let q = fits c.count.result k _ _ c.in-ok-fit.ensures in
+    let q = fits c.count.result k _ _ c.in_ok-fit.ensures in
     let h : k < min 32 (length cs) = omega arith in
     let r : 0 < get_or rest k 0 = omega arith in
     let o = c.in-Ok.ensures in
@@ -64,7 +64,7 @@ returns-in-Err g c =
     let k = c.args.cell in
     let v = c.args.from.now in
     let e = length-guard rest cs in
-    let q = fits c.count.result k _ _ c.in-ok-fit.ensures in
+    let q = fits c.count.result k _ _ c.in_ok-fit.ensures in
     let h : k < min 32 (length cs) = omega arith in
     let r : 0 < get_or rest k 0 = omega arith in
     let o = c.in-Err.ensures in

@@ -9,6 +9,6 @@ returns g c =
     let b = c.args.self.now.bounds in
     let cs = g.S.Store.cells c.args.self.now.below in
     let e = length-window b.first b.most cs in
-    let q = fits c.shown.result c.args.cell _ _ c.in-ok-fit.ensures in
+    let q = fits c.shown.result c.args.cell _ _ c.in_ok-fit.ensures in
     let a = at-window b.first b.most cs c.args.cell (omega arith) in
     record { answer = grind (arith, nat_tests); bytes = grind (arith, nat_tests) }

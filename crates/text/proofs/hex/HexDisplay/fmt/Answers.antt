@@ -10,7 +10,7 @@ loop-byte-preserved g c plain =
     byte_more g.W.Write.write_str_gives c.args.f.now c.loop-byte.f c.write_char.new.self c.write_char-in-loop-byte.new.self
     c.args.self.now.bytes.now c.loop-byte.byte-index c.digit.result c.digit-in-loop-byte.result c.write_char.result c.write_char-in-loop-byte.result
     c.loop-byte-test.true c.digit.ensures.value c.digit.ensures.ascii c.digit-in-loop-byte.ensures.value c.digit-in-loop-byte.ensures.ascii
-    (ap is_ok c.in_ok-write_char.was) (ap is_ok c.in-ok-write-char-2.was)
+    (ap is_ok c.in_ok-write_char.was) (ap is_ok c.in_ok-write_char-2.was)
     (c.loop-byte.invariant plain) c.write_char.ensures.writes c.write_char-in-loop-byte.ensures.writes
 
 pub returns-clause-writes : goal.returns-clause-writes

@@ -20,10 +20,10 @@ loop-c-preserved c = (
       (escape_tells c.escape.result _ false _ _ c.escape.ensures c.if-is_some.ensures) c.loop-c.invariant.3,
 )
 
-pub returns-then-is-some : goal.returns-then-is-some
-returns-then-is-some c =
+pub returns-then-is_some : goal.returns-then-is_some
+returns-then-is_some c =
     any_found (chars c.args.self.now.name.now) c.loop-c.c-iterator.rest.now c.next.new.self.rest.now c.in-Some.c c.loop-c.invariant.2 c.in-Some.ensures.steps.0
-    (escape_tells c.escape.result _ true _ _ c.escape.ensures c.if-is-some.ensures) c.loop-c.invariant.3
+    (escape_tells c.escape.result _ true _ _ c.escape.ensures c.if-is_some.ensures) c.loop-c.invariant.3
 
 pub returns : goal.returns
 returns c = any_none (chars c.args.self.now.name.now) c.loop-c.c-iterator.rest.now c.in-None.ensures.steps.0.0 c.loop-c.invariant.3

@@ -6,6 +6,6 @@ use Rattle.image.proofs.strip_image.calls.StripImageStore.read.Goals as goal
 
 pub returns : goal.returns
 returns c =
-    let q = fits c.shown.result c.args.cell _ _ c.in-ok-fit.ensures in
+    let q = fits c.shown.result c.args.cell _ _ c.in_ok-fit.ensures in
     let a = strips_at (vec_items c.args.self.now.bytes) c.args.cell (omega arith) in
     record { answer = grind (arith, nat_tests); bytes = grind (arith, nat_tests) }

@@ -6,10 +6,10 @@ use Rattle.image.proofs.layout.blank_bytes.Goals as goal
 pub loop-init : goal.loop-init
 loop-init c =
     blank_starts _ _ _ _ _ (number_bytes c.args.each) c.args.count c.args.second c.new-bytes.ensures.items
-    c.in_ok-extend_from_slice.ensures.items c.in_ok-extend_from_slice-2.ensures.items c.number_bytes.ensures c.number-bytes-2.ensures
+    c.in_ok-extend_from_slice.ensures.items c.in_ok-extend_from_slice-2.ensures.items c.number_bytes.ensures c.number_bytes-2.ensures
 
 pub loop-preserved : goal.loop-preserved
-loop-preserved c = blank_goes_on (number_bytes c.args.count ++ number_bytes c.args.second) _ _ _ (number_bytes c.args.each) c.loop.counter c.loop.invariant c.in_ok-extend_from_slice-3.ensures.items c.number-bytes-in-loop.ensures
+loop-preserved c = blank_goes_on (number_bytes c.args.count ++ number_bytes c.args.second) _ _ _ (number_bytes c.args.each) c.loop.counter c.loop.invariant c.in_ok-extend_from_slice-3.ensures.items c.number_bytes-in-loop.ensures
 
 pub returns : goal.returns
 returns c =

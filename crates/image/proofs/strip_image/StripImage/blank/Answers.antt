@@ -10,7 +10,7 @@ made bs n writes a b e f g = e ∙ ap (λ (x : ℕ). blank n writes 0 (x * b)) f
 pub invariant_of-result : goal.invariant_of-result
 invariant_of-result c =
     let e = made _ c.args.cells c.args.writes _ _ c.in_ok-bytes.ensures c.from.ensures c.from-2.ensures in
-    (sym (ap is_strip_image e ∙ (new_strips_are c.args.cells c.args.writes).0), tt)
+    record { checked = sym (ap is_strip_image e ∙ (new_strips_are c.args.cells c.args.writes).0) }
 
 pub returns : goal.returns
 returns c =

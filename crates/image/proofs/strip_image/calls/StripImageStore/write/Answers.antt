@@ -30,7 +30,7 @@ invariant_of-self c =
     let new = c.fill_next.new.bytes in
     let e : new ≡ strip_write bs k v = c.fill_next.ensures ∙ ap (λ (x : List ℕ). strip_write x k v) c.as_mut_slice.ensures.value in
     let f : vec_items (with_items self.bytes new) ≡ strip_write bs k v = with_items_is self.bytes new (omega arith) ∙ e in
-    (self.checked ∙ sym (ap is_strip_image f ∙ strips_sound_after bs k v h q.0 l), tt)
+    record { checked = self.checked ∙ sym (ap is_strip_image f ∙ strips_sound_after bs k v h q.0 l) }
 
 pub returns : goal.returns
 returns c =

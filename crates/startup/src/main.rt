@@ -6,6 +6,7 @@ mod measure;
 
 use images::{new_image, show_image};
 use measure::{measure_files, measure_listed};
+use std::process::ExitCode;
 use std::{env, io};
 
 const USAGE: &str = "\
@@ -34,17 +35,14 @@ out of the register. The others are measured, and the status is then 1. It is 1 
 where an image cannot be shown or made.
 ";
 
-// The program could not do all that was asked; what was wrong is on standard error.
-#[derive(Drop)]
-struct Failed;
-
-fn main(rt: HostRuntime) -> Result<(), Failed> {
+// It fails where the program could not do all that was asked; what was wrong is on standard error.
+fn main(rt: HostRuntime) -> ExitCode {
     match run(&rt) {
-        Ok(true) => Ok(()),
-        Ok(false) => Err(Failed),
+        Ok(true) => ExitCode::SUCCESS,
+        Ok(false) => ExitCode::FAILURE,
         Err(e) => {
             let _ = eprintln!(rt; "startup: {e}");
-            Err(Failed)
+            ExitCode::FAILURE
         }
     }
 }

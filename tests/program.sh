@@ -2,7 +2,7 @@
 # Runs startup on files of many kinds and holds what it does against sha1sum and against a model of the stores in Python.
 set -euo pipefail
 cd "$(dirname "$0")/.."
-startup=$PWD/target/bin/startup
+startup=$PWD/crates/startup/out/startup
 stores=$PWD/tests/stores.py
 rules=$PWD/docs/MODULE.md
 folder=$(mktemp -d)

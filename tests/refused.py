@@ -22,14 +22,15 @@ def edit_of(path):
 
 def first_error(edit, folder):
     """The name of the first error of a check of the edited crate, or None."""
-    crate = pathlib.Path(folder) / edit["crate"]
-    shutil.copytree(ROOT / "crates" / edit["crate"], crate)
+    crate = pathlib.Path(folder) / "crates" / edit["crate"]
+    shutil.copytree(ROOT / "crates" / edit["crate"], crate, ignore=shutil.ignore_patterns("out"))
+    (pathlib.Path(folder) / "crates.txt").write_text(f"{edit['crate']}:\n")
     source = crate / edit["file"]
     text = source.read_text()
     if text.count(edit["old"]) != 1:
         sys.exit(f"{edit['old']!r} stands {text.count(edit['old'])} times in {edit['file']}")
     source.write_text(text.replace(edit["old"], edit["new"]))
-    run = subprocess.run(["rt", "check", str(crate)], capture_output=True, text=True)
+    run = subprocess.run(["rt", "check"], cwd=crate, capture_output=True, text=True)
     found = re.search(r"error\[([a-z0-9-]+)\]", run.stdout + run.stderr)
     return found.group(1) if run.returncode != 0 and found else None
 

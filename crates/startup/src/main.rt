@@ -30,9 +30,9 @@ new OUT CELLS WRITES [--strip]
                   many cells that can each be written so many times; both are numbers
                   from 0 to 65535, and OUT is a file that is not there yet
 
-A file that measure cannot read is named on standard error, with the reason, and left
-out of the register. The others are measured, and the status is then 1. It is 1 also
-where an image cannot be shown or made.
+A file that cannot be read is named on standard error, with the reason, and left out
+of the register. The others are measured, and the status is then 1.
+Where an image cannot be shown or made, the reason is named and the status is 1.
 ";
 
 // It fails where the program could not do all that was asked; what was wrong is on standard error.

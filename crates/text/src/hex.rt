@@ -1,4 +1,4 @@
-// Bytes as lower-case hexadecimal digits: `println!(rt, "{}", Hex { bytes: &digest })?`.
+// Bytes as lower-case hexadecimal digits: `println!(rt; "{}", Hex { bytes: &digest })?`.
 ghost use Rattle.std.specs.Prelude.{◌≡◌, ◌<◌, Some};
 ghost use Rattle.text.specs.Hex.{hex_digit, hex_of};
 

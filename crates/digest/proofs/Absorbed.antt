@@ -95,3 +95,12 @@ finish-absorb m =
     ap (λ (x : List ℕ). bytes_of 5 (absorb (absorb fresh m) x).words) (padding-held m)
     ∙ (ap (λ (x : Running). bytes_of 5 x.words) (absorb-append fresh m (padding (length m % 64) (length m)))
     ∙ words_whole (m ++ padding (length m % 64) (length m)))
+
+-- the padding in two pieces: a one bit and zeros, and then the number of bits
+pub finish_fed : (v a b : Running) (pad bits : List ℕ) → pad ≡ 0x80 ∷ replicate ((119 - length v.pending) % 64) 0 → bits ≡ be64 (v.total * 8 % 2 ^ 64) → a ≡ absorb v pad → b ≡ absorb a bits
+    → bytes_of 5 b.words ≡ finish v
+unfolding finish padding
+finish_fed v a b pad bits p q d e =
+    ap (λ (x : Running). bytes_of 5 x.words) (e ∙ (ap (λ (x : Running). absorb x bits) d ∙ absorb-append v pad bits))
+    ∙ (ap (λ (x : List ℕ). bytes_of 5 (absorb v (x ++ bits)).words) p
+    ∙ ap (λ (x : List ℕ). bytes_of 5 (absorb v ((0x80 ∷ replicate ((119 - length v.pending) % 64) 0) ++ x)).words) q)

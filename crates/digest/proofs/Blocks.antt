@@ -1,6 +1,7 @@
 -- Blocks one after another: in two runs, and with bytes behind them.
-use Rattle.std.proofs.Common.{◌≡◌, ℕ, zero, suc, ◌+◌, ◌-◌, ◌*◌, ◌≤◌, List, ◌++◌, length, take, drop, sym, refl, ap, ◌∙◌, zero-add, arith}
+use Rattle.std.proofs.Common.{◌≡◌, ℕ, zero, suc, ◌+◌, ◌*◌, ◌≤◌, List, ◌++◌, length, take, drop, fold, refl, ap, ◌∙◌, zero-add, arith}
 use Rattle.std.proofs.lemmas.List.{take-append-le, drop-append-le, drop-drop, length-drop}
+use Rattle.std.specs.Simd.{first_chunks}
 use Rattle.digest.specs.Sha1.{compress, blocks}
 
 pub blocks-add : (n m : ℕ) (h bs : List ℕ) → blocks (n + m) h bs ≡ blocks m (blocks n h bs) (drop (64 * n) bs)
@@ -25,19 +26,8 @@ blocks-append (suc n) h xs ys l =
     ∙ (ap (λ (x : List ℕ). blocks n (compress h (take 64 xs)) x) (drop-append-le 64 xs ys a)
     ∙ blocks-append n (compress h (take 64 xs)) (drop 64 xs) ys b)
 
--- ---- the loop over the blocks
-
-pub blocks_none : (h bs : List ℕ) → h ≡ blocks 0 h bs
+-- blocks one after another are a fold over the pieces of 64 bytes
+pub fold-first_chunks : (n : ℕ) (h bs : List ℕ) → fold compress h (first_chunks 64 n bs) ≡ blocks n h bs
 unfolding blocks
-blocks_none h bs = refl
-
-one_block : (h bs : List ℕ) → blocks 1 h bs ≡ compress h (take 64 bs)
-unfolding blocks
-one_block h bs = refl
-
-pub blocks_more : (i : ℕ) (h s r bs : List ℕ) → s ≡ blocks i h bs → r ≡ compress s (take (64 * i + 64 - 64 * i) (drop (64 * i) bs)) → r ≡ blocks (i + 1) h bs
-blocks_more i h s r bs e q =
-    let n : 64 * i + 64 - 64 * i ≡ 64 = omega arith in
-    q ∙ (ap (λ (k : ℕ). compress s (take k (drop (64 * i) bs))) n
-    ∙ (ap (λ (x : List ℕ). compress x (take 64 (drop (64 * i) bs))) e
-    ∙ (sym (one_block (blocks i h bs) (drop (64 * i) bs)) ∙ sym (blocks-add i 1 h bs))))
+fold-first_chunks zero h bs = refl
+fold-first_chunks (suc n) h bs = fold-first_chunks n (compress h (take 64 bs)) (drop 64 bs)

@@ -1,8 +1,8 @@
 -- Two lists whose differences are none are the same.
-use Rattle.std.proofs.Common.{◌≡◌, ℕ, zero, suc, ◌+◌, ◌<◌, eqb, List, length, get_or, Decides, sym, refl, ap, ◌∙◌, subst, inl, inr, add-one, arith}
+use Rattle.std.proofs.Common.{◌≡◌, ℕ, eqb, List, [], ◌∷◌, length, fold, Decides, sym, refl, ap, ap₂, ◌∙◌, arith}
+use Rattle.std.specs.List.{zip}
 use lib.Bits.{bit_or, bit_xor, or_add_and, xor_add_and, and_le_l, and_le_r, xor_self}
-use Rattle.std.proofs.lemmas.List.{ext_get_or}
-use Rattle.std.proofs.lemmas.Bool.{cases_lt, eqb-true, eq-eqb}
+use Rattle.std.proofs.lemmas.Bool.{eqb-true, eq-eqb}
 use Rattle.digest.specs.Codes.{differences}
 
 or_none : (x y : ℕ) → bit_or x y ≡ 0 → (x ≡ 0) × (y ≡ 0)
@@ -19,36 +19,22 @@ xor_none x y e =
     let c = and_le_r x y in
     omega arith
 
-same_below : (n : ℕ) (a b : List ℕ) → differences n a b ≡ 0 → (i : ℕ) → i < n → get_or a i 0 ≡ get_or b i 0
-unfolding differences
-same_below zero a b e i l = absurd (omega arith)
-same_below (suc n) a b e i l =
-    let p = or_none (differences n a b) (bit_xor (get_or a n 0) (get_or b n 0)) e in
-    elim (cases_lt i n) [
-      | inl k ↦ same_below n a b p.0 i k
-      | inr k ↦
-          let s : n ≡ i = omega arith in
-          subst (λ (j : ℕ). get_or a j 0 ≡ get_or b j 0) s (xor_none (get_or a n 0) (get_or b n 0) p.1)
-    ]
+-- bits that are gathered from none are none only where all bytes are the same
+same_bytes : (bits : ℕ) (a b : List ℕ) → length a ≡ length b → fold (λ bits p. bit_or bits (bit_xor p.0 p.1)) bits (zip a b) ≡ 0 → (bits ≡ 0) × (a ≡ b)
+same_bytes bits [] [] l e = (e, refl)
+same_bytes bits [] (y ∷ b) l e = absurd (omega arith)
+same_bytes bits (x ∷ a) [] l e = absurd (omega arith)
+same_bytes bits (x ∷ a) (y ∷ b) l e =
+    let rest = same_bytes (bit_or bits (bit_xor x y)) a b (omega arith) e in
+    let here = or_none bits (bit_xor x y) rest.0 in
+    (here.0, ap₂ (λ z zs. z ∷ zs) (xor_none x y here.1) rest.1)
 
-none_from_self : (n : ℕ) (a : List ℕ) → differences n a a ≡ 0
-unfolding differences
-none_from_self zero a = refl
-none_from_self (suc n) a =
-    ap (λ (x : ℕ). bit_or x (bit_xor (get_or a n 0) (get_or a n 0))) (none_from_self n a)
-    ∙ xor_self (get_or a n 0)
+differences-self : (a : List ℕ) → differences a a ≡ 0
+differences-self [] = refl
+differences-self (x ∷ a) = ap (λ (bits : ℕ). fold (λ bits p. bit_or bits (bit_xor p.0 p.1)) bits (zip a a)) (xor_self x) ∙ differences-self a
 
-pub decides_agreement : (a b : List ℕ) (d : ℕ) → length a ≡ 20 → length b ≡ 20 → d ≡ differences 20 a b → Decides (eqb d 0) (a ≡ b)
-decides_agreement a b d la lb e = (
-  λ t. ext_get_or 0 a b (la ∙ sym lb) (λ i l. same_below 20 a b (sym e ∙ eqb-true d 0 t) i (omega arith)),
-  λ s. eq-eqb d 0 (e ∙ (ap (λ (x : List ℕ). differences 20 a x) (sym s) ∙ none_from_self 20 a)),
+pub decides_agreement : (a b : List ℕ) (d : ℕ) → length a ≡ length b → d ≡ differences a b → Decides (eqb d 0) (a ≡ b)
+decides_agreement a b d l e = (
+  λ t. (same_bytes 0 a b l (sym e ∙ eqb-true d 0 t)).1,
+  λ s. eq-eqb d 0 (e ∙ (ap (λ (x : List ℕ). differences a x) (sym s) ∙ differences-self a)),
 )
-
-pub differences_none : (a b : List ℕ) → 0 ≡ differences 0 a b
-unfolding differences
-differences_none a b = refl
-
-pub differences_more : (i : ℕ) (a b : List ℕ) (d : ℕ) → d ≡ differences i a b → bit_or d (bit_xor (get_or a i 0) (get_or b i 0)) ≡ differences (i + 1) a b
-unfolding differences
-differences_more i a b d e =
-    ap (λ (x : ℕ). bit_or x (bit_xor (get_or a i 0) (get_or b i 0))) e ∙ sym (ap (λ (k : ℕ). differences k a b) (add-one i))

@@ -5,7 +5,6 @@ pub mod Blocks
 pub mod Absorbed
 pub mod Buffers
 pub mod Feeding
-pub mod Closing
 pub mod Joins
 pub mod Keys
 pub mod Differences

@@ -1,29 +1,24 @@
 -- The steps of a round: the loop over the words of its part of the schedule, and the four rounds of a block.
 use Rattle.std.proofs.Common.{◌≡◌, ℕ, ◌+◌, ◌-◌, ◌<◌, ◌≤◌, List, [], ◌∷◌, length, get_or, take, drop, sym, refl, ap, ◌∙◌, arith}
 use Rattle.std.proofs.lemmas.List.Sums.{fold_more}
-use Rattle.std.proofs.lemmas.List.{length-drop, get_or-drop}
+use Rattle.std.proofs.lemmas.List.{take_all}
 use Rattle.digest.specs.Words.{words_of}
 use Rattle.digest.specs.Sha1.{choose, parity, majority, step, steps, summed, schedule, grown, compress}
 use Rattle.digest.proofs.Schedule.{quarter-grown}
 
--- a step with word i of a list, of those from m on
-pub steps_more : (f : ℕ → ℕ → ℕ → ℕ) (k : ℕ) (h s w : List ℕ) (m i : ℕ) (r : List ℕ) → m ≤ i → i < length w → s ≡ steps f k h (take (i - m) (drop m w)) → r ≡ step f k s (get_or w i 0)
-    → r ≡ steps f k h (take ((i + 1) - m) (drop m w))
-steps_more f k h s w m i r a l e q =
-    let n : i - m < length (drop m w) = simp length-drop (omega arith) in
-    let j : (i + 1) - m ≡ (i - m) + 1 = omega arith in
-    let x : m + (i - m) ≡ i = omega arith in
-    let g : get_or w i 0 ≡ get_or (drop m w) (i - m) 0 = sym (get_or-drop m w (i - m) 0 ∙ ap (λ (y : ℕ). get_or w y 0) x) in
-    q ∙ (ap (λ (y : ℕ). step f k s y) g
-    ∙ (ap (λ (y : List ℕ). step f k y (get_or (drop m w) (i - m) 0)) e
-    ∙ (sym (fold_more (step f k) h (drop m w) (i - m) 0 n)
-    ∙ ap (λ (y : ℕ). steps f k h (take y (drop m w))) (sym j))))
+-- a step with word i of a list
+pub steps_more : (f : ℕ → ℕ → ℕ → ℕ) (k : ℕ) (h s ws : List ℕ) (i : ℕ) (r : List ℕ) → i < length ws → s ≡ steps f k h (take i ws) → r ≡ step f k s (get_or ws i 0)
+    → r ≡ steps f k h (take (i + 1) ws)
+steps_more f k h s ws i r l e q =
+    q ∙ (ap (λ (y : List ℕ). step f k y (get_or ws i 0)) e ∙ sym (fold_more (step f k) h ws i 0 l))
 
--- twenty of them
-pub steps_all : (f : ℕ → ℕ → ℕ → ℕ) (k : ℕ) (h g s w : List ℕ) (m b i : ℕ) → m ≡ b → i - m ≡ 20 → h ≡ g → s ≡ steps f k h (take (i - m) (drop m w)) → s ≡ steps f k g (take 20 (drop b w))
-steps_all f k h g s w m b i a n e q =
-    q ∙ (ap (λ (y : List ℕ). steps f k y (take (i - m) (drop m w))) e
-    ∙ (ap (λ (y : ℕ). steps f k g (take y (drop m w))) n ∙ ap (λ (y : ℕ). steps f k g (take 20 (drop y w))) a))
+-- all twenty of them, which are those of a list from m on
+pub steps_all : (f : ℕ → ℕ → ℕ → ℕ) (k : ℕ) (h g s w : List ℕ) (m i : ℕ) → length (take (m + 20 - m) (drop m w)) ≤ i → h ≡ g → s ≡ steps f k h (take i (take (m + 20 - m) (drop m w)))
+    → s ≡ steps f k g (take 20 (drop m w))
+steps_all f k h g s w m i l e q =
+    let n : m + 20 - m ≡ 20 = omega arith in
+    q ∙ (ap (λ (y : List ℕ). steps f k h y) (take_all i _ l)
+    ∙ (ap (λ (y : List ℕ). steps f k y (take (m + 20 - m) (drop m w))) e ∙ ap (λ (y : ℕ). steps f k g (take y (drop m w))) n))
 
 -- five words, written out
 pub five_words : (s : List ℕ) → length s ≡ 5 → get_or s 0 0 ∷ get_or s 1 0 ∷ get_or s 2 0 ∷ get_or s 3 0 ∷ get_or s 4 0 ∷ [] ≡ s

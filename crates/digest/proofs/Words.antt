@@ -1,6 +1,8 @@
--- Words and their bytes: the loops that read and write them.
-use Rattle.std.proofs.Common.{◌≡◌, ℕ, zero, suc, ◌+◌, ◌*◌, ◌<◌, ◌≤◌, List, [], ◌∷◌, ◌++◌, length, get_or, take, set, sym, refl, ap, ◌∙◌, append_assoc, add-one, arith}
-use Rattle.std.proofs.lemmas.List.{take_more_set, take_all, length_push, length-set}
+-- Words and their bytes.
+use Rattle.std.proofs.Common.{◌≡◌, ℕ, zero, suc, ◌+◌, ◌*◌, ◌<◌, List, [], ◌∷◌, ◌++◌, map, length, get_or, take, drop, set, sym, refl, ap, ◌∙◌, zero-add, add-one, lit<, arith}
+use Rattle.std.specs.List.{flat_map}
+use Rattle.std.specs.Simd.{first_chunks}
+use Rattle.std.proofs.lemmas.List.{take_more_set, length_push, get_or-take, get_or-drop}
 use Rattle.digest.specs.Words.{word_at, words_of, be32, bytes_of}
 
 -- ---- words from bytes
@@ -24,44 +26,35 @@ length-words_of bs (suc n) =
     let k = length_push (words_of n bs) (word_at bs n) in
     omega arith
 
+-- what lies in the i-th of the pieces of four bytes
+get_or-first_chunks : (k i j : ℕ) (bs d : List ℕ) → i < k → j < 4 → get_or (get_or (first_chunks 4 k bs) i d) j 0 ≡ get_or bs (4 * i + j) 0
+get_or-first_chunks zero i j bs d l m = absurd (omega arith)
+get_or-first_chunks (suc k) zero j bs d l m = get_or-take 4 bs j 0 m ∙ ap (λ (n : ℕ). get_or bs n 0) (sym (zero-add j))
+get_or-first_chunks (suc k) (suc i) j bs d l m =
+    let e : 4 + (4 * i + j) ≡ 4 * suc i + j = omega arith in
+    get_or-first_chunks k i j (drop 4 bs) d (omega arith) m ∙ (get_or-drop 4 bs (4 * i + j) 0 ∙ ap (λ (n : ℕ). get_or bs n 0) e)
+
+-- the i-th word, read from the i-th of these pieces
+pub word_at-first_chunks : (k i : ℕ) (bs d : List ℕ) → i < k
+    → get_or (get_or (first_chunks 4 k bs) i d) 0 0 * 16777216 + get_or (get_or (first_chunks 4 k bs) i d) 1 0 * 65536 + get_or (get_or (first_chunks 4 k bs) i d) 2 0 * 256 + get_or (get_or (first_chunks 4 k bs) i d) 3 0
+    ≡ word_at bs i
+word_at-first_chunks k i bs d l =
+    let p0 = get_or-first_chunks k i 0 bs d l (lit< tt) in
+    let p1 = get_or-first_chunks k i 1 bs d l (lit< tt) in
+    let p2 = get_or-first_chunks k i 2 bs d l (lit< tt) in
+    let p3 = get_or-first_chunks k i 3 bs d l (lit< tt) in
+    let zero : 4 * i + 0 ≡ 4 * i = omega arith in
+    omega (arith, p0, p1, p2, p3, ap (λ (n : ℕ). get_or bs n 0) zero)
+
 -- ---- bytes from words
 
-pub bytes_none : (ws : List ℕ) → ◌≡◌ {A = List ℕ} [] (bytes_of 0 ws)
+-- the bytes of five words, one word after another
+pub flat_map-be32 : (ws : List ℕ) → length ws ≡ 5 → flat_map (λ bs. bs) (map be32 ws) ≡ bytes_of 5 ws
 unfolding bytes_of
-bytes_none ws = refl
-
--- one byte more at the end of what is written so far
-put_more : (xs front : List ℕ) (n m y : ℕ) → n < length xs → m ≡ n + 1 → take n xs ≡ front → take m (set xs n y) ≡ front ++ y ∷ []
-put_more xs front n m y l e f =
-    ap (λ (k : ℕ). take k (set xs n y)) e ∙ (take_more_set xs n y l ∙ ap (λ (q : List ℕ). q ++ y ∷ []) f)
-
--- four bytes more
-pub put_four : (xs front b : List ℕ) (n : ℕ) → n + 3 < length xs → take n xs ≡ front
-    → take (n + 4) (set (set (set (set xs n (get_or b 0 0)) (n + 1) (get_or b 1 0)) (n + 2) (get_or b 2 0)) (n + 3) (get_or b 3 0))
-    ≡ front ++ get_or b 0 0 ∷ get_or b 1 0 ∷ get_or b 2 0 ∷ get_or b 3 0 ∷ []
-put_four xs front b n l e =
-    let x1 : List ℕ = set xs n (get_or b 0 0) in
-    let x2 : List ℕ = set (set xs n (get_or b 0 0)) (n + 1) (get_or b 1 0) in
-    let x3 : List ℕ = set (set (set xs n (get_or b 0 0)) (n + 1) (get_or b 1 0)) (n + 2) (get_or b 2 0) in
-    let l0 : n < length xs = omega arith in
-    let l1 : n + 1 < length (set xs n (get_or b 0 0)) = simp length-set (omega arith) in
-    let l2 : n + 2 < length (set (set xs n (get_or b 0 0)) (n + 1) (get_or b 1 0)) = simp length-set (omega arith) in
-    let l3 : n + 3 < length (set (set (set xs n (get_or b 0 0)) (n + 1) (get_or b 1 0)) (n + 2) (get_or b 2 0)) = simp length-set (omega arith) in
-    let p1 = put_more xs front n (n + 1) (get_or b 0 0) l0 refl e in
-    let p2 = put_more x1 _ (n + 1) (n + 2) (get_or b 1 0) l1 (omega arith) p1 in
-    let p3 = put_more x2 _ (n + 2) (n + 3) (get_or b 2 0) l2 (omega arith) p2 in
-    let p4 = put_more x3 _ (n + 3) (n + 4) (get_or b 3 0) l3 (omega arith) p3 in
-    p4 ∙ simp append_assoc
-
-pub bytes_more : (ws out b : List ℕ) (i : ℕ) → 4 * i + 3 < length out → b ≡ be32 (get_or ws i 0) → take (4 * i) out ≡ bytes_of i ws
-    → take (4 * (i + 1)) (set (set (set (set out (4 * i) (get_or b 0 0)) (4 * i + 1) (get_or b 1 0)) (4 * i + 2) (get_or b 2 0)) (4 * i + 3) (get_or b 3 0)) ≡ bytes_of (i + 1) ws
-unfolding bytes_of
-bytes_more ws out b i l eb e =
-    let n : 4 * (i + 1) ≡ 4 * i + 4 = omega arith in
-    ap (λ (k : ℕ). take k (set (set (set (set out (4 * i) (get_or b 0 0)) (4 * i + 1) (get_or b 1 0)) (4 * i + 2) (get_or b 2 0)) (4 * i + 3) (get_or b 3 0))) n
-    ∙ (put_four out (bytes_of i ws) b (4 * i) l e
-    ∙ (ap (λ (q : List ℕ). bytes_of i ws ++ get_or q 0 0 ∷ get_or q 1 0 ∷ get_or q 2 0 ∷ get_or q 3 0 ∷ []) eb
-    ∙ sym (ap (λ (k : ℕ). bytes_of k ws) (add-one i))))
-
-pub bytes_all : (ws out : List ℕ) (i : ℕ) → length out ≤ 4 * i → i ≡ 5 → take (4 * i) out ≡ bytes_of i ws → out ≡ bytes_of 5 ws
-bytes_all ws out i l li e = sym (take_all (4 * i) out l) ∙ (e ∙ ap (λ (n : ℕ). bytes_of n ws) li)
+flat_map-be32 [] e = absurd (omega arith)
+flat_map-be32 (a ∷ []) e = absurd (omega arith)
+flat_map-be32 (a ∷ b ∷ []) e = absurd (omega arith)
+flat_map-be32 (a ∷ b ∷ c ∷ []) e = absurd (omega arith)
+flat_map-be32 (a ∷ b ∷ c ∷ d ∷ []) e = absurd (omega arith)
+flat_map-be32 (a ∷ b ∷ c ∷ d ∷ x ∷ []) e = refl
+flat_map-be32 (a ∷ b ∷ c ∷ d ∷ x ∷ y ∷ r) e = absurd (omega arith)

@@ -1,7 +1,7 @@
 -- What a comparison of two codes looks at.
-use Rattle.std.specs.Prelude.{ℕ, zero, suc, List, bit_or, bit_xor, slice_index}
+use Rattle.std.specs.Prelude.{ℕ, List, fold, bit_or, bit_xor}
+use Rattle.std.specs.List.{zip}
 
--- the bits in which the first n bytes of two lists differ, all in one byte
-unfoldable pub differences : ℕ → List ℕ → List ℕ → ℕ
-differences zero a b = 0
-differences (suc n) a b = bit_or (differences n a b) (bit_xor (slice_index a n) (slice_index b n))
+-- the bits in which two lists of bytes differ, all in one byte
+abbrev pub differences : List ℕ → List ℕ → ℕ
+differences a b = fold (λ bits p. bit_or bits (bit_xor p.0 p.1)) 0 (zip a b)

@@ -1,8 +1,7 @@
 -- A digest under way, which takes its message piece by piece. Its users go by the laws of `fresh`, `absorb` and `finish`, or by what it was `Fed`, and not by what these are.
-use Rattle.std.specs.Prelude.{◌≡◌, ℕ, ◌+◌, ◌*◌, ◌/◌, ◌%◌, ◌^◌, List, [], ◌++◌, length, take, drop}
+use Rattle.std.specs.Prelude.{◌≡◌, ℕ, ◌+◌, ◌*◌, ◌/◌, ◌%◌, ◌^◌, List, [], ◌++◌, length, drop}
 use Rattle.digest.specs.Words.{bytes_of}
 use Rattle.digest.specs.Sha1.{blocks, start, padding}
-use Rattle.digest.specs.declared.running.Sha1.{Sha1}
 
 -- the words after the whole blocks so far, the bytes since, and the number of bytes in all, of which 64 bits are kept
 pub record Running : Type 0 where
@@ -29,10 +28,6 @@ unfoldable pub finish : Running → List ℕ
 unfolding absorb
 finish v = bytes_of 5 (absorb v (padding (length v.pending) v.total)).words
 
--- what the struct stands for: what lies in its buffer past the fill means nothing
-unfoldable pub held : Sha1 → Running
-held d = running d.words (take d.fill d.buffer) d.total
-
 -- a digest that was opened and then fed a message, in whatever pieces
-unfoldable pub Fed : Sha1 → List ℕ → Type 0
-Fed d m = held d ≡ absorb fresh m
+unfoldable pub Fed : Running → List ℕ → Type 0
+Fed d m = d ≡ absorb fresh m

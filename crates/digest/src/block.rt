@@ -1,33 +1,28 @@
 // The compression function of SHA-1: five words and a block of 64 bytes give five words.
-ghost use Rattle.std.specs.Prelude.{◌≡◌, ℕ, ◌+◌, ◌/◌, ◌<◌, ◌≤◌, List, length, take};
+ghost use Rattle.std.specs.Prelude.{◌≡◌, ℕ, ◌+◌, ◌<◌, ◌≤◌, List, take, fold};
 ghost use Rattle.digest.specs.Words.{words_of};
-ghost use Rattle.digest.specs.Sha1.{next_word, grown, compress, blocks};
+ghost use Rattle.digest.specs.Sha1.{next_word, grown, compress};
 
-use crate::round::{Choose, LastParity, Majority, Parity, stepped};
+use crate::round::{choose, majority, parity, stepped};
 
 // The sixteen words of a block, with room for the rest of the schedule.
-fn loaded(block: &[u8]) -> [u32; 80]
-    requires { length block.now ≡ 64 }
+fn loaded(block: &[u8; 64]) -> [u32; 80]
     ensures { take 16 result ≡ words_of 16 block.now }
 {
     let mut w = [0u32; 80];
-    for i in 0..16 {
-        w[i] = u32::from_be_bytes([
-            block[4 * i],
-            block[4 * i + 1],
-            block[4 * i + 2],
-            block[4 * i + 3],
-        ]);
+    let (words, _) = block.as_chunks::<4>();
+    for (i, word) in words.iter().enumerate() {
+        w[i] = u32::from_be_bytes(*word);
     }
     w
 }
 
-// The schedule goes on from `from` words past the sixteen to `to`.
-fn grow(w: &mut [u32; 80], from: usize, to: usize)
-    requires { (from ≤ to) × (to ≤ 64) }
-    ensures { (ws : List ℕ) → take (from + 16) w.old ≡ grown from ws → take (to + 16) w.new ≡ grown to ws }
+// The schedule goes on from `FROM` words past the sixteen to `TO`. Each word is made of earlier ones in the same array, so the loop goes by their places.
+fn grow<const FROM: usize, const TO: usize>(w: &mut [u32; 80])
+    requires { (FROM ≤ TO) × (TO ≤ 64) }
+    ensures { (ws : List ℕ) → take (FROM + 16) w.old ≡ grown FROM ws → take (TO + 16) w.new ≡ grown TO ws }
 {
-    for n in from..to {
+    for n in FROM..TO {
         w[n + 16] = next_word(w, n);
     }
 }
@@ -41,19 +36,18 @@ fn next_word(w: &[u32; 80], n: usize) -> u32
 }
 
 // The five words after one block. The schedule grows between the quarters of the steps, so that a processor works on both at once.
-pub(crate) fn compressed(h: [u32; 5], block: &[u8]) -> [u32; 5]
-    requires { length block.now ≡ 64 }
+pub(crate) fn compressed(h: [u32; 5], block: &[u8; 64]) -> [u32; 5]
     ensures { result ≡ compress h block.now }
 {
     let mut w = loaded(block);
-    grow(&mut w, 0, 4);
-    let s = stepped::<Choose>(h, &w);
-    grow(&mut w, 4, 24);
-    let t = stepped::<Parity>(s, &w);
-    grow(&mut w, 24, 44);
-    let u = stepped::<Majority>(t, &w);
-    grow(&mut w, 44, 64);
-    let v = stepped::<LastParity>(u, &w);
+    grow::<0, 4>(&mut w);
+    let s = stepped::<0, 0x5a827999, _>(choose, h, &w);
+    grow::<4, 24>(&mut w);
+    let t = stepped::<20, 0x6ed9eba1, _>(parity, s, &w);
+    grow::<24, 44>(&mut w);
+    let u = stepped::<40, 0x8f1bbcdc, _>(majority, t, &w);
+    grow::<44, 64>(&mut w);
+    let v = stepped::<60, 0xca62c1d6, _>(parity, u, &w);
     [
         h[0].wrapping_add(v[0]),
         h[1].wrapping_add(v[1]),
@@ -63,14 +57,9 @@ pub(crate) fn compressed(h: [u32; 5], block: &[u8]) -> [u32; 5]
     ]
 }
 
-// The five words after all whole blocks of `bytes`.
-pub(crate) fn compressed_all(h: [u32; 5], bytes: &[u8]) -> [u32; 5]
-    ensures { result ≡ blocks (length bytes.now / 64) h bytes.now }
+// The five words after some blocks.
+pub(crate) fn compressed_all(h: [u32; 5], blocks: &[[u8; 64]]) -> [u32; 5]
+    ensures { result ≡ fold compress h blocks.now }
 {
-    let mut words = h;
-    for i in 0..bytes.len() / 64 {
-        let next = compressed(words, &bytes[64 * i..64 * i + 64]);
-        words = next;
-    }
-    words
+    blocks.iter().fold(h, compressed)
 }

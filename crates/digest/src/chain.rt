@@ -1,5 +1,5 @@
 // The chain of digests that a register holds.
-ghost use Rattle.std.specs.Prelude.{◌≡◌};
+ghost use Rattle.std.specs.Prelude.{◌≡◌, fold};
 ghost use Rattle.digest.specs.Chain.{extended, chain};
 
 use crate::running::Sha1;
@@ -15,10 +15,16 @@ pub fn extend(register: &[u8; 20], digest: &[u8; 20]) -> [u8; 20]
 pub fn chain_of(digests: &[[u8; 20]]) -> [u8; 20]
     ensures { result ≡ chain digests.now }
 {
-    let mut register = [0; 20];
-    for digest in digests {
-        let next = extend(&register, digest);
-        register = next;
-    }
-    register
+    extended_by([0; 20], digests)
+}
+
+fn extended_by(register: [u8; 20], digests: &[[u8; 20]]) -> [u8; 20]
+    ensures { result ≡ fold extended register digests.now }
+{
+    digests.iter().fold(
+        register,
+        |register: [u8; 20], digest: &[u8; 20]| -> [u8; 20]
+            ensures { result ≡ extended register digest.now }
+        { extend(&register, digest) },
+    )
 }

@@ -1,8 +1,8 @@
-// The code of a message: twenty bytes that are compared by `agrees` alone.
+// The code of a message: twenty bytes that are compared by `agrees` alone. It has no `==`, since a derived one may end at the first byte that differs.
 ghost use Rattle.std.specs.Prelude.{◌≡◌, Decides};
 ghost use Rattle.digest.specs.Codes.{differences};
 
-#[derive(Clone, Copy)]
+#[derive(Clone, Copy, Debug)]
 pub struct Code {
     pub bytes: [u8; 20],
 }
@@ -18,11 +18,7 @@ impl Code {
 
 // The bits in which two codes differ, all in one byte.
 fn difference(a: &[u8; 20], b: &[u8; 20]) -> u8
-    ensures { result ≡ differences 20 a.now b.now }
+    ensures { result ≡ differences a.now b.now }
 {
-    let mut bits = 0;
-    for i in 0..20 {
-        bits |= a[i] ^ b[i];
-    }
-    bits
+    a.iter().zip(b).fold(0, |bits, (x, y)| bits | (x ^ y))
 }

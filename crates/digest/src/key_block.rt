@@ -3,18 +3,63 @@ ghost use Rattle.std.specs.Prelude.{◌≡◌, ◌≤◌, length, replicate};
 ghost use Rattle.digest.specs.Hmac.{zero_filled, masked, key_block};
 
 use crate::message::digest_of;
+use std::marker::Model;
 
 // The place for one key, lent to each code that is worked out.
 #[derive(Drop)]
 pub struct KeyBlock {
-    pub(crate) bytes: [u8; 64],
+    bytes: [u8; 64],
+}
+
+impl Model for KeyBlock {
+    ghost use Rattle.std.specs.Prelude.{ℕ, List};
+
+    ghost Value = { List ℕ };
+
+    ghost view = { λ k. k.bytes };
 }
 
 impl KeyBlock {
     pub fn new() -> Self
-        ensures { result.bytes ≡ replicate 64 0 }
+        ensures { result ≡ replicate 64 0 }
     {
         KeyBlock { bytes: [0; 64] }
+    }
+
+    // Lays a key of any length into the block.
+    pub(crate) fn load(&mut self, key: &[u8])
+        ensures { self.new ≡ key_block key.now }
+    {
+        if key.len() > 64 {
+            let short = digest_of(key);
+            self.fill(&short);
+        } else {
+            self.fill(key);
+        }
+    }
+
+    // Lays at most 64 bytes into the block, with zeros behind them.
+    fn fill(&mut self, key: &[u8])
+        requires { length key.now ≤ 64 }
+        ensures { self.new ≡ zero_filled key.now }
+    {
+        self.bytes = [0; 64];
+        self.bytes[..key.len()].copy_from_slice(key);
+    }
+
+    // Each byte of the block, xor a mask.
+    pub(crate) fn mask(&mut self, by: u8)
+        ensures { self.new ≡ masked by self.old }
+    {
+        for b in self.bytes.iter_mut() {
+            *b ^= by;
+        }
+    }
+
+    pub(crate) fn bytes(&self) -> &[u8; 64]
+        ensures { result.now ≡ self.now }
+    {
+        &self.bytes
     }
 }
 
@@ -25,39 +70,9 @@ pub(crate) struct KeyGuard<'a> {
 
 impl Drop for KeyGuard<'_> {
     fn drop(self)
-        ensures { self.exit.0.now ≡ record { bytes = replicate 64 0 } }
+        ensures { self.exit.0.now ≡ replicate 64 0 }
     {
-        self.block.bytes = [0; 64];
-        let KeyGuard { block: _ } = self;
-    }
-}
-
-// Lays a key of any length into the block.
-pub(crate) fn load(block: &mut KeyBlock, key: &[u8])
-    ensures { block.new.bytes ≡ key_block key.now }
-{
-    if key.len() > 64 {
-        let short = digest_of(key);
-        fill(block, &short);
-    } else {
-        fill(block, key);
-    }
-}
-
-// Lays at most 64 bytes into the block, with zeros behind them.
-fn fill(block: &mut KeyBlock, key: &[u8])
-    requires { length key.now ≤ 64 }
-    ensures { block.new.bytes ≡ zero_filled key.now }
-{
-    block.bytes = [0; 64];
-    block.bytes[0..key.len()].copy_from_slice(key);
-}
-
-// Each byte of the block, xor a mask.
-pub(crate) fn mask(block: &mut KeyBlock, by: u8)
-    ensures { block.new.bytes ≡ masked by block.old.bytes }
-{
-    for b in block.bytes.iter_mut() {
-        *b ^= by;
+        let KeyGuard { block } = self;
+        block.bytes = [0; 64];
     }
 }

@@ -6,13 +6,13 @@
 #![tactic(auto)]
 
 mod block;
-mod buffer;
 pub mod chain;
 pub mod codes;
 pub mod examples;
 pub mod hmac;
 pub mod key_block;
 pub mod message;
+mod padding;
 mod round;
 pub mod running;
 

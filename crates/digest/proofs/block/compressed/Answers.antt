@@ -1,6 +1,6 @@
 use Rattle.std.proofs.Common.{◌≡◌, ℕ, List, take, ◌∙◌}
 use Rattle.digest.specs.Words.{words_of}
-use Rattle.digest.specs.Sha1.{grown}
+use Rattle.digest.specs.Sha1.{choose, parity, majority, grown}
 use Rattle.digest.proofs.Schedule.{grown_none}
 use Rattle.digest.proofs.Steps.{rounds-grown}
 use Rattle.digest.proofs.block.compressed.Goals as goal
@@ -15,4 +15,5 @@ returns c =
     let four : take 80 c.grow-4.new.w ≡ grown 64 (words_of 16 c.args.block.now) = c.grow-4.ensures ws three in
     rounds-grown c.args.h c.args.block.now c.grow.new.w c.grow-2.new.w c.grow-3.new.w c.grow-4.new.w
     c.stepped-s.result c.stepped-t.result c.stepped-u.result c.stepped-v.result
-    one two three four c.stepped-s.ensures c.stepped-t.ensures c.stepped-u.ensures c.stepped-v.ensures
+    one two three four (c.stepped-s.ensures choose (λ x y z r e. e)) (c.stepped-t.ensures parity (λ x y z r e. e))
+    (c.stepped-u.ensures majority (λ x y z r e. e)) (c.stepped-v.ensures parity (λ x y z r e. e))

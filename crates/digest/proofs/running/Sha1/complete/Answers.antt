@@ -1,13 +1,9 @@
 use Rattle.std.proofs.Common.{refl, rules}
-use Rattle.digest.specs.Running.{held}
 use Rattle.digest.proofs.Feeding.{complete_absorbs}
 use Rattle.digest.proofs.running.Sha1.complete.Goals as goal
 
-pub returns : goal.returns
-unfolding held
-returns c = record {
-  empty = refl;
-  fed =
-      complete_absorbs c.args.self.words c.args.self.buffer c.args.piece.now c.placed-full.result c.args.self.fill c.args.self.total
-      (search rules) c.placed-full.ensures c.compressed.result c.requires c.compressed.ensures;
-}
+pub returns-clause-fed : goal.returns-clause-fed
+returns-clause-fed c =
+    let d = c.self.inside in
+    complete_absorbs d.words d.block d.total c.args.self (search rules) c.self.view_is c.fill-fill.result c.args.piece.now c.copy_from_slice.new.self
+    c.fill-fill.ensures.value c.copy_from_slice.ensures.after c.compressed-self-inside.result _ c.requires refl c.compressed-self-inside.ensures

@@ -1,15 +1,12 @@
-use Rattle.std.proofs.Common.{◌≡◌, ◌-◌, ◌*◌, ◌/◌, length, take, arith}
-use Rattle.std.proofs.lemmas.List.{length-take}
-use Rattle.digest.specs.Running.{held}
-use Rattle.digest.proofs.Feeding.{blocks-absorb, absorb_split}
+use Rattle.std.proofs.Common.{ℕ, List, fold, ap, ◌∙◌, rules}
+use Rattle.digest.specs.Sha1.{compress}
+use Rattle.digest.proofs.Feeding.{blocks-absorb}
 use Rattle.digest.proofs.running.Sha1.take_blocks.Goals as goal
 
 pub returns : goal.returns
-unfolding held
 returns c =
-    let n : length (take (length c.args.piece.now / 64 * 64 - 0) c.args.piece.now) ≡ length c.args.piece.now / 64 * 64 =
-    simp length-take (omega arith) in
-    absorb_split (held c.args.self) _ (held c.keep.result) c.args.piece.now (length c.args.piece.now / 64 * 64)
-    (blocks-absorb c.args.self.words c.compressed_all.result c.args.self.buffer _ c.args.self.fill c.args.self.total _
-    c.requires n (omega arith) c.compressed_all.ensures)
-    c.keep.ensures
+    let d = c.self.inside in
+    let cut = c.as_chunks.ensures in
+    let words = c.compressed_all-self-inside in
+    blocks-absorb d.words d.block d.total c.args.self (search rules) c.self.view_is c.args.piece.now words.result c.as_chunks.result.1.now c.keep.result
+    c.requires (words.ensures ∙ ap (λ (x : List (List ℕ)). fold compress d.words x) cut.front) cut.back c.keep.ensures

@@ -1,5 +1,5 @@
 use Rattle.digest.proofs.Keys.{long_key, short_key}
-use Rattle.digest.proofs.key_block.load.Goals as goal
+use Rattle.digest.proofs.key_block.KeyBlock.load.Goals as goal
 
 pub returns-then-key-gt64 : goal.returns-then-key-gt64
 returns-then-key-gt64 c = long_key c.args.key.now c.digest_of-short.result _ c.if-key-gt64.true c.digest_of-short.ensures c.fill.ensures

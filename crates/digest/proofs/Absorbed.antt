@@ -1,6 +1,6 @@
 -- The laws of a digest under way: two pieces are one, and a message in pieces has the digest of the message.
 use Rattle.std.proofs.Common.{◌≡◌, ℕ, ◌+◌, ◌-◌, ◌*◌, ◌/◌, ◌%◌, ◌^◌, ◌<◌, ◌≤◌, List, [], ◌∷◌, ◌++◌, length, drop, replicate, sym, refl, ap, ◌∙◌, append_assoc, arith}
-use Rattle.std.proofs.lemmas.List.{length-append, length-drop, drop-append-le, drop-drop, drop_all, take_all}
+use Rattle.std.proofs.lemmas.List.{length-append, length-drop, length-replicate, drop-append-le, drop-drop, drop_all, take_all}
 use Rattle.digest.specs.Words.{bytes_of, be64}
 use Rattle.digest.specs.Sha1.{compress, blocks, start, padding, sha1}
 use Rattle.digest.specs.Running.{Running, running, fresh, absorb, finish}
@@ -104,3 +104,15 @@ finish_fed v a b pad bits p q d e =
     ap (λ (x : Running). bytes_of 5 x.words) (e ∙ (ap (λ (x : Running). absorb x bits) d ∙ absorb-append v pad bits))
     ∙ (ap (λ (x : List ℕ). bytes_of 5 (absorb v (x ++ bits)).words) p
     ∙ ap (λ (x : List ℕ). bytes_of 5 (absorb v ((0x80 ∷ replicate ((119 - length v.pending) % 64) 0) ++ x)).words) q)
+
+-- the padding's first piece leaves room for the number of bits, and for no byte more
+pub padding_leaves_eight : (v a : Running) (pad bits : List ℕ) → length v.pending < 64 → pad ≡ 0x80 ∷ replicate ((119 - length v.pending) % 64) 0 → length bits ≡ 8 → a ≡ absorb v pad
+    → length a.pending + length bits ≡ 64
+unfolding absorb
+padding_leaves_eight v a pad bits l p e d =
+    let n = length-append v.pending pad in
+    let k = ap (λ (x : List ℕ). length x) p in
+    let z = length-replicate {A = ℕ} ((119 - length v.pending) % 64) 0 in
+    let m = length-drop (64 * (length (v.pending ++ pad) / 64)) (v.pending ++ pad) in
+    let q = ap (λ (x : Running). length x.pending) d in
+    omega arith

@@ -38,7 +38,8 @@ impl Sha1 {
         }
     }
 
-    // The digest after one more piece of the message.
+    // The digest after one more piece of the message. Inlined, since a short message spends much of its time here.
+    #[inline(always)]
     pub fn feed(self, piece: &[u8]) -> Self
         ensures value { result ≡ absorb self piece.now }
         ensures fed { (m : List ℕ) → Fed self m → Fed result (m ++ piece.now) }
@@ -63,7 +64,7 @@ impl Sha1 {
     {
         let bits = bit_count(self.total);
         let fill = self.fill();
-        let last = self.feed(padding(fill)).feed(&bits);
+        let last = self.feed(padding(fill)).complete(&bits);
         let Sha1 {
             block: _,
             words,

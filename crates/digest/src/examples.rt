@@ -4,7 +4,7 @@ ghost use Rattle.digest.specs.Examples.{AbcDigest, EmptyDigest, abc_digest, empt
 
 use crate::message::digest_of;
 
-// SHA-1 of the three bytes "abc", an example of FIPS 180.
+// SHA-1 of the three bytes "abc", an example of FIPS 180. Each of the two is one closed equation, which a function over both would have to take apart into a trait with a message and a value.
 pub fn digest_of_abc() -> [u8; 20]
     ensures defined { AbcDigest }
     ensures value { result ≡ abc_digest }

@@ -1,0 +1,63 @@
+// Calls that look random and are the same in every run, some of them wrong.
+
+pub enum Call {
+    Read { cell: u16, len: usize },
+    Left { cell: u16 },
+    Write { cell: u16, byte: u8, len: usize },
+}
+
+#[derive(Drop)]
+pub struct Calls {
+    state: u64,
+    // cells are drawn below this
+    cells: u64,
+}
+
+impl Calls {
+    pub fn new(cells: u64) -> Self {
+        Calls { state: 1, cells }
+    }
+
+    fn below(&mut self, n: u64) -> u64 {
+        self.state = self.state.wrapping_mul(1103515245).wrapping_add(12345) % 2147483648;
+        (self.state / 256).checked_rem(n).unwrap_or(0)
+    }
+
+    fn cell(&mut self) -> u16 {
+        (self.below(self.cells) % 65536) as u16
+    }
+
+    fn byte(&mut self) -> u8 {
+        (self.below(256) % 256) as u8
+    }
+
+    // Twenty, or seldom nineteen or twenty-one.
+    fn len(&mut self) -> usize {
+        match self.below(12) {
+            0 => 19,
+            1 => 21,
+            _ => 20,
+        }
+    }
+}
+
+impl Iterator for Calls {
+    type Item = Call;
+
+    fn next(&mut self) -> Option<Call> {
+        let kind = self.below(4);
+        let cell = self.cell();
+        Some(match kind {
+            0 => Call::Read {
+                cell,
+                len: self.len(),
+            },
+            1 => Call::Left { cell },
+            _ => Call::Write {
+                cell,
+                byte: self.byte(),
+                len: self.len(),
+            },
+        })
+    }
+}

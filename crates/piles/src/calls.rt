@@ -1,4 +1,5 @@
 // Calls that look random and are the same in every run, some of them wrong.
+ghost use Rattle.std.specs.Prelude.{◌<◌, ◌≤◌};
 
 pub enum Call {
     Read { cell: u16, len: usize },
@@ -11,24 +12,31 @@ pub struct Calls {
     state: u64,
     // cells are drawn below this
     cells: u64,
+    ghost in_range: { (0 < cells) × (cells ≤ 65536) },
 }
 
 impl Calls {
-    pub fn new(cells: u64) -> Self {
+    pub fn new(cells: u64) -> Self
+        requires { (0 < cells) × (cells ≤ 65536) }
+    {
         Calls { state: 1, cells }
     }
 
-    fn below(&mut self, n: u64) -> u64 {
+    fn below(&mut self, n: u64) -> u64
+        requires { 0 < n }
+        ensures { result < n }
+    {
         self.state = self.state.wrapping_mul(1103515245).wrapping_add(12345) % 2147483648;
-        (self.state / 256).checked_rem(n).unwrap_or(0)
+        self.state / 256 % n
     }
 
     fn cell(&mut self) -> u16 {
-        (self.below(self.cells) % 65536) as u16
+        let cells = self.cells;
+        self.below(cells) as u16
     }
 
     fn byte(&mut self) -> u8 {
-        (self.below(256) % 256) as u8
+        self.below(256) as u8
     }
 
     // Twenty, or seldom nineteen or twenty-one.

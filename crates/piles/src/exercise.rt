@@ -1,4 +1,6 @@
 // Calls on any store, with each answer on a line.
+ghost use Rattle.std.specs.Prelude.{◌<◌, ◌≤◌};
+
 use crate::calls::{Call, Calls};
 use crate::told::Told;
 use std::io;
@@ -11,7 +13,9 @@ pub fn exercise<S: Store + Drop>(
     mut store: S,
     cells: u64,
     turns: usize,
-) -> io::Result<S> {
+) -> io::Result<S>
+    requires { (0 < cells) × (cells ≤ 65536) }
+{
     let count = store.count();
     println!(rt; "count {count}")?;
     for call in Calls::new(cells).take(turns) {

@@ -4,8 +4,7 @@ use std::io;
 use store::{Store, WearGuard, Window};
 
 // All piles, one after another, over the same store.
-pub fn exercise_piles<S: Store + Drop>(rt: &HostRuntime, store: S) -> io::Result<S> {
-    let mut store = store;
+pub fn exercise_piles<S: Store + Drop>(rt: &HostRuntime, mut store: S) -> io::Result<S> {
     for (first, most) in [(1, 3), (4, 9), (60000, 9)] {
         store = one_window(rt, store, first, most)?;
     }

@@ -29,7 +29,7 @@ pub fn show_image<'a>(rt: &HostRuntime, name: &'a str) -> Result<(), Failure<'a>
 }
 
 // Prints the cells of any store.
-fn show_cells<'a, S: Store>(rt: &HostRuntime, kind: &str, store: &S) -> Result<(), Failure<'a>> {
+fn show_cells<S: Store>(rt: &HostRuntime, kind: &str, store: &S) -> Result<(), Failure<'static>> {
     let count = store.count();
     println!(rt; "{kind} image, cells {count}")?;
     let none = Cell {

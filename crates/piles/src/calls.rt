@@ -1,6 +1,7 @@
 // Calls that look random and are the same in every run, some of them wrong.
 ghost use Rattle.std.specs.Prelude.{◌<◌, ◌≤◌};
 
+#[derive(Clone, Copy, Debug)]
 pub enum Call {
     Read { cell: u16, len: usize },
     Left { cell: u16 },

@@ -9,10 +9,22 @@ use store::{Cell, Store, read_all};
 use text::Hex;
 
 // How many cells a new image has, and how often each can be written.
-#[derive(Clone, Copy)]
+#[derive(Clone, Copy, Debug)]
 pub struct Size {
-    pub cells: u16,
-    pub writes: u16,
+    cells: u16,
+    writes: u16,
+}
+
+impl Size {
+    // The size in two words, each a number from 0 to 65,535; every word that is none is named.
+    pub fn parse<'a>(cells: &'a str, writes: &'a str) -> Result<Size, Failure<'a>> {
+        match (cells.parse::<u16>(), writes.parse::<u16>()) {
+            (Ok(cells), Ok(writes)) => Ok(Size { cells, writes }),
+            (Ok(_), Err(_)) => Err(Failure::NoNumber(writes)),
+            (Err(_), Ok(_)) => Err(Failure::NoNumber(cells)),
+            (Err(_), Err(_)) => Err(Failure::NoNumbers(cells, writes)),
+        }
+    }
 }
 
 // Prints the cells of an image file.

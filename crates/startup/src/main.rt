@@ -82,23 +82,13 @@ fn show<'a>(rt: &HostRuntime, words: &'a [String]) -> Result<(), Failure<'a>> {
 fn new<'a>(rt: &HostRuntime, words: &'a [String]) -> Result<(), Failure<'a>> {
     match words {
         [out, cells, writes] => {
-            let size = size(cells.as_str(), writes.as_str())?;
+            let size = Size::parse(cells.as_str(), writes.as_str())?;
             new_image(rt, out.as_str(), Kind::Cells, size)
         }
         [out, cells, writes, flag] if flag.as_str() == "--strip" => {
-            let size = size(cells.as_str(), writes.as_str())?;
+            let size = Size::parse(cells.as_str(), writes.as_str())?;
             new_image(rt, out.as_str(), Kind::Strips, size)
         }
         _ => Err(Failure::Usage("it is startup new OUT CELLS WRITES [--strip]")),
-    }
-}
-
-// Two numbers from 0 to 65,535; each word that is none is named.
-fn size<'a>(cells: &'a str, writes: &'a str) -> Result<Size, Failure<'a>> {
-    match (cells.parse::<u16>(), writes.parse::<u16>()) {
-        (Ok(cells), Ok(writes)) => Ok(Size { cells, writes }),
-        (Ok(_), Err(_)) => Err(Failure::NoNumber(writes)),
-        (Err(_), Ok(_)) => Err(Failure::NoNumber(cells)),
-        (Err(_), Err(_)) => Err(Failure::NoNumbers(cells, writes)),
     }
 }

@@ -3,7 +3,7 @@ use digest::KeyBlock;
 use std::{array, io};
 use text::Hex;
 
-#[derive(Clone, Copy)]
+#[derive(Clone, Copy, Debug)]
 struct Case<'a> {
     number: u8,
     key: &'a [u8],

@@ -1,10 +1,13 @@
 // Calls stores and piles of them in many ways, and prints each answer. What it must write was worked out by a model in Python (tests/stores.py).
 #![tactic(auto)]
 
+mod calls;
 mod exercise;
 mod images;
+mod kept;
 mod layers;
 mod through;
+mod told;
 
 use std::io;
 

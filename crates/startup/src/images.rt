@@ -1,35 +1,47 @@
 // Store images in files: showing what one holds, and making a new one.
+use crate::failure::Failure;
 use image::{CellImage, Kind, StripImage, kind_of};
+use std::alloc::{AllocError, Global};
 use std::fs::File;
 use std::io::Write;
 use std::{fs, io};
 use store::{Cell, Store, read_all};
 use text::Hex;
 
-// Prints the cells of an image file; false where it is no image or cannot be read.
-pub fn show_image(rt: &HostRuntime, name: &str) -> io::Result<bool> {
-    let bytes = match fs::read(rt, name) {
-        Ok(bytes) => bytes,
-        Err(e) => {
-            eprintln!(rt; "startup: {name}: {e}")?;
-            return Ok(false);
+// How many cells a new image has, and how often each can be written.
+#[derive(Clone, Copy, Debug)]
+pub struct Size {
+    cells: u16,
+    writes: u16,
+}
+
+impl Size {
+    // The size in two words, each a number from 0 to 65,535; every word that is none is named.
+    pub fn parse<'a>(cells: &'a str, writes: &'a str) -> Result<Size, Failure<'a>> {
+        match (cells.parse::<u16>(), writes.parse::<u16>()) {
+            (Ok(cells), Ok(writes)) => Ok(Size { cells, writes }),
+            (Ok(_), Err(_)) => Err(Failure::NoNumber(writes)),
+            (Err(_), Ok(_)) => Err(Failure::NoNumber(cells)),
+            (Err(_), Err(_)) => Err(Failure::NoNumbers(cells, writes)),
         }
-    };
+    }
+}
+
+// Prints the cells of an image file.
+pub fn show_image<'a>(rt: &HostRuntime, name: &'a str) -> Result<(), Failure<'a>> {
+    let bytes = fs::read(rt, name).map_err(|error| Failure::File { name, error })?;
     match kind_of(bytes.as_slice()) {
         Some(Kind::Cells) => show_cells(rt, "cell", &CellImage::new(bytes)),
         Some(Kind::Strips) => show_cells(rt, "strip", &StripImage::new(bytes)),
         None => {
             let len = bytes.len();
-            eprintln!(rt;
-                "startup: {name}: its {len} bytes are neither a cell image nor a strip image"
-            )?;
-            Ok(false)
+            Err(Failure::NoImage { name, len })
         }
     }
 }
 
 // Prints the cells of any store.
-fn show_cells<S: Store>(rt: &HostRuntime, kind: &str, store: &S) -> io::Result<bool> {
+fn show_cells<S: Store>(rt: &HostRuntime, kind: &str, store: &S) -> Result<(), Failure<'static>> {
     let count = store.count();
     println!(rt; "{kind} image, cells {count}")?;
     let none = Cell {
@@ -38,40 +50,36 @@ fn show_cells<S: Store>(rt: &HostRuntime, kind: &str, store: &S) -> io::Result<b
     };
     let mut cells = vec![in rt.alloc(); none; usize::from(count)]?;
     if read_all(store, cells.as_mut_slice()).is_err() {
-        return Err(io::Error::other("the store does not give its cells"));
+        return Err(Failure::NoCells);
     }
     for (k, cell) in cells.iter().enumerate() {
-        show_cell(rt, k, *cell)?;
+        show_cell(rt, k, cell)?;
     }
-    Ok(true)
+    Ok(())
 }
 
-fn show_cell(rt: &HostRuntime, k: usize, cell: Cell) -> io::Result<()> {
-    let value = cell.value;
+fn show_cell(rt: &HostRuntime, k: usize, cell: &Cell) -> io::Result<()> {
+    let hex = Hex { bytes: &cell.value };
     let left = cell.left;
-    let hex = Hex { bytes: &value };
     println!(rt; "cell {k} {hex} writes left {left}")
 }
 
-// Makes an image of zeros in a new file; false where that cannot be done.
-pub fn new_image(
+// Makes an image of zeros in a new file.
+pub fn new_image<'a>(
     rt: &HostRuntime,
-    name: &str,
-    cells: u16,
-    writes: u16,
-    strip: bool,
-) -> io::Result<bool> {
-    let bytes = if strip {
-        StripImage::blank(rt.alloc(), cells, writes)?.into_bytes()
-    } else {
-        CellImage::blank(rt.alloc(), cells, writes)?.into_bytes()
-    };
-    match write_new(rt, name, bytes.as_slice()) {
-        Ok(()) => Ok(true),
-        Err(e) => {
-            eprintln!(rt; "startup: {name}: {e}")?;
-            Ok(false)
-        }
+    name: &'a str,
+    kind: Kind,
+    size: Size,
+) -> Result<(), Failure<'a>> {
+    let bytes = blank(rt.alloc(), kind, size)?;
+    write_new(rt, name, bytes.as_slice()).map_err(|error| Failure::File { name, error })
+}
+
+// The bytes of an image of zeros.
+fn blank(heap: Global, kind: Kind, size: Size) -> Result<Vec<u8>, AllocError> {
+    match kind {
+        Kind::Cells => Ok(CellImage::blank(heap, size.cells, size.writes)?.into_bytes()),
+        Kind::Strips => Ok(StripImage::blank(heap, size.cells, size.writes)?.into_bytes()),
     }
 }
 

@@ -1,10 +1,13 @@
 // What a mechanic runs on the parts of a groomer's controller. `startup --help` says what there is.
 #![tactic(auto)]
 
+mod failure;
 mod images;
 mod measure;
 
-use images::{new_image, show_image};
+use failure::Failure;
+use image::Kind;
+use images::{Size, new_image, show_image};
 use measure::{measure_files, measure_listed};
 use std::process::ExitCode;
 use std::{env, io};
@@ -35,86 +38,57 @@ of the register. The others are measured, and the status is then 1.
 Where an image cannot be shown or made, the reason is named and the status is 1.
 ";
 
-// It fails where the program could not do all that was asked; what was wrong is on standard error.
 fn main(rt: HostRuntime) -> ExitCode {
-    match run(&rt) {
-        Ok(true) => ExitCode::SUCCESS,
-        Ok(false) => ExitCode::FAILURE,
-        Err(e) => {
-            let _ = eprintln!(rt; "startup: {e}");
-            ExitCode::FAILURE
-        }
-    }
+    let words = match arguments(&rt) {
+        Ok(words) => words,
+        Err(error) => return fail(&rt, Failure::System(error)),
+    };
+    run(&rt, words.as_slice()).unwrap_or_else(|failure| fail(&rt, failure))
 }
 
-// Does what the arguments ask; true where all of it could be done.
-fn run(rt: &HostRuntime) -> io::Result<bool> {
-    let mut args = env::args(rt)?;
-    let _ = args.next();
-    let Some(command) = args.next() else {
+fn arguments(rt: &HostRuntime) -> io::Result<Vec<String>> {
+    Ok(env::args(rt)?.skip(1).collect(rt.alloc())?)
+}
+
+// Says what was wrong.
+fn fail(rt: &HostRuntime, failure: Failure<'_>) -> ExitCode {
+    let _ = eprintln!(rt; "startup: {failure}");
+    ExitCode::FAILURE
+}
+
+// Does what the arguments ask.
+fn run<'a>(rt: &HostRuntime, args: &'a [String]) -> Result<ExitCode, Failure<'a>> {
+    let Some((command, words)) = args.split_first() else {
         return measure_listed(rt);
     };
     match command.as_str() {
-        "measure" => {
-            let names = args.collect::<Vec<String>>(rt.alloc())?;
-            if names.is_empty() {
-                measure_listed(rt)
-            } else {
-                measure_files(rt, names.as_slice())
-            }
-        }
-        "show" => {
-            let names = args.collect::<Vec<String>>(rt.alloc())?;
-            show(rt, names.as_slice())
-        }
-        "new" => {
-            let words = args.collect::<Vec<String>>(rt.alloc())?;
-            new(rt, words.as_slice())
-        }
-        "--help" | "-h" | "help" => {
-            print!(rt; "{USAGE}")?;
-            Ok(true)
-        }
-        other => {
-            eprintln!(rt; "startup: no command {other:?}; startup --help says what there is")?;
-            Ok(false)
-        }
+        "measure" if words.is_empty() => return measure_listed(rt),
+        "measure" => return Ok(measure_files(rt, words)?),
+        "show" => show(rt, words)?,
+        "new" => new(rt, words)?,
+        "--help" | "-h" | "help" => print!(rt; "{USAGE}")?,
+        other => return Err(Failure::NoCommand(other)),
     }
+    Ok(ExitCode::SUCCESS)
 }
 
-fn show(rt: &HostRuntime, names: &[String]) -> io::Result<bool> {
-    match names {
+fn show<'a>(rt: &HostRuntime, words: &'a [String]) -> Result<(), Failure<'a>> {
+    match words {
         [name] => show_image(rt, name.as_str()),
-        _ => {
-            eprintln!(rt; "startup: show takes one file: startup show IMAGE")?;
-            Ok(false)
-        }
+        _ => Err(Failure::Usage("show takes one file: startup show IMAGE")),
     }
 }
 
-fn new(rt: &HostRuntime, words: &[String]) -> io::Result<bool> {
-    let (out, cells, writes, strip) = match words {
-        [out, cells, writes] => (out, cells, writes, false),
-        [out, cells, writes, flag] if flag.as_str() == "--strip" => (out, cells, writes, true),
-        _ => {
-            eprintln!(rt; "startup: it is startup new OUT CELLS WRITES [--strip]")?;
-            return Ok(false);
+fn new<'a>(rt: &HostRuntime, words: &'a [String]) -> Result<(), Failure<'a>> {
+    match words {
+        [out, cells, writes] => {
+            let size = Size::parse(cells.as_str(), writes.as_str())?;
+            new_image(rt, out.as_str(), Kind::Cells, size)
         }
-    };
-    let (Some(cells), Some(writes)) = (number(rt, cells.as_str())?, number(rt, writes.as_str())?)
-    else {
-        return Ok(false);
-    };
-    new_image(rt, out.as_str(), cells, writes, strip)
-}
-
-// A number from 0 to 65,535; a word that is none is named.
-fn number(rt: &HostRuntime, word: &str) -> io::Result<Option<u16>> {
-    match word.parse::<u16>() {
-        Ok(n) => Ok(Some(n)),
-        Err(_) => {
-            eprintln!(rt; "startup: {word:?} is no number from 0 to 65535")?;
-            Ok(None)
+        [out, cells, writes, flag] if flag.as_str() == "--strip" => {
+            let size = Size::parse(cells.as_str(), writes.as_str())?;
+            new_image(rt, out.as_str(), Kind::Strips, size)
         }
+        _ => Err(Failure::Usage("it is startup new OUT CELLS WRITES [--strip]")),
     }
 }

@@ -1,39 +1,31 @@
 // Measuring files: the SHA-1 of each, and the register that they are chained into.
+use crate::failure::{Failure, LIST};
 use digest::{Sha1, chain_of};
+use std::convert::AsStr;
 use std::fs::File;
 use std::io::Read;
+use std::process::ExitCode;
 use std::{fs, io};
 use text::{Hex, SumLine};
 
 // How much of a file is held at a time.
 const PIECE: usize = 16384;
 
-// The list of the parts that are measured where no file is named.
-const LIST: &str = "parts.txt";
-
 // Measures the files that the list of parts names.
-pub fn measure_listed(rt: &HostRuntime) -> io::Result<bool> {
+pub fn measure_listed(rt: &HostRuntime) -> Result<ExitCode, Failure<'static>> {
     let text = match fs::read_to_string(rt, LIST) {
         Ok(text) => text,
-        Err(e) => {
-            eprintln!(rt; "startup: {LIST}: {e}")?;
-            eprintln!(rt;
-                "startup: name the files, as in startup measure FILE..., or list them in {LIST}"
-            )?;
-            return Ok(false);
-        }
+        Err(error) => return Err(Failure::NoList(error)),
     };
-    let mut names = Vec::new(rt.alloc());
-    for line in text.lines() {
-        if !line.is_empty() {
-            names.push(String::from_str(rt.alloc(), line)?)?;
-        }
-    }
-    measure_files(rt, names.as_slice())
+    let names = text
+        .lines()
+        .filter(|line| !line.is_empty())
+        .collect::<Vec<&str>>(rt.alloc())?;
+    Ok(measure_files(rt, names.as_slice())?)
 }
 
-// Prints a line for each file and one for the register; false where a file could not be read.
-pub fn measure_files(rt: &HostRuntime, names: &[String]) -> io::Result<bool> {
+// Prints a line for each file and one for the register. The status is that of a failure where a file could not be read.
+pub fn measure_files<N: AsStr>(rt: &HostRuntime, names: &[N]) -> io::Result<ExitCode> {
     let mut digests = Vec::new(rt.alloc());
     for name in names {
         let name = name.as_str();
@@ -42,13 +34,20 @@ pub fn measure_files(rt: &HostRuntime, names: &[String]) -> io::Result<bool> {
                 print_line(rt, &digest, name)?;
                 digests.push(digest)?;
             }
-            Err(e) => eprintln!(rt; "startup: {name}: {e}")?,
+            Err(error) => {
+                let failure = Failure::File { name, error };
+                eprintln!(rt; "startup: {failure}")?
+            }
         }
     }
     let register = chain_of(digests.as_slice());
     let hex = Hex { bytes: &register };
     println!(rt; "register {hex}")?;
-    Ok(digests.len() == names.len())
+    if digests.len() == names.len() {
+        Ok(ExitCode::SUCCESS)
+    } else {
+        Ok(ExitCode::FAILURE)
+    }
 }
 
 fn print_line<'a>(rt: &HostRuntime, digest: &'a [u8; 20], name: &'a str) -> io::Result<()> {
@@ -67,6 +66,7 @@ fn measured(rt: &HostRuntime, name: &str) -> io::Result<[u8; 20]> {
 fn digest_of_rest(file: &mut File) -> io::Result<[u8; 20]> {
     let mut piece = [0u8; PIECE];
     let mut digest = Sha1::open();
+    // The count is only an end to the loop, since nothing else proves that a file has one.
     for _ in 0..u64::MAX {
         match file.read(&mut piece) {
             Ok(0) => return Ok(digest.close()),

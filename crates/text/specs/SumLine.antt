@@ -1,7 +1,7 @@
 -- The line that sha1sum writes for a file: its digest, two spaces, its name.
-use Rattle.std.specs.Prelude.{ℕ, Bool, false, cond, ◌||◌, List, [], ◌∷◌, ◌++◌, codes, ◌==◌}
+use Rattle.std.specs.Prelude.{ℕ, Bool, cond, ◌||◌, List, [], ◌++◌, codes, ◌==◌}
 use Rattle.std.proofs.Math.Utf8.{encode}
-use Rattle.std.specs.List.{flat_map}
+use Rattle.std.specs.List.{flat_map, list_any}
 use Rattle.std.specs.Str.{chars}
 use Rattle.text.specs.Hex.{hex_of}
 
@@ -14,8 +14,7 @@ abbrev pub escaped : ℕ → List ℕ
 escaped c = cond (c == 92) (codes "\\\\") (cond (c == 10) (codes "\\n") (cond (c == 13) (codes "\\r") (encode c)))
 
 abbrev pub any_escaped : List ℕ → Bool
-any_escaped [] = false
-any_escaped (c ∷ cs) = is_escaped c || any_escaped cs
+any_escaped cs = list_any is_escaped cs
 
 abbrev pub escaped_name : List ℕ → List ℕ
 escaped_name name = flat_map escaped (chars name)

@@ -8,7 +8,7 @@ ghost use Rattle.text.specs.SumLine.{is_escaped, escaped, any_escaped, escaped_n
 use crate::hex::Hex;
 use std::fmt;
 
-#[derive(Clone, Copy)]
+#[derive(Clone, Copy, Debug, PartialEq, Eq)]
 pub struct SumLine<'a> {
     pub digest: Hex<'a>,
     pub name: &'a str,
@@ -36,12 +36,7 @@ impl Escaped<'_> {
     fn differs(&self) -> bool
         ensures { result ≡ any_escaped (chars self.now.name.now) }
     {
-        for c in self.name.chars() {
-            if escape(c).is_some() {
-                return true;
-            }
-        }
-        false
+        self.name.chars().any(is_escaped)
     }
 }
 
@@ -64,6 +59,12 @@ fn write_escaped<W: fmt::Write>(f: &mut fmt::Formatter<W>, c: char) -> fmt::Resu
         Some(text) => f.write_str(text),
         None => f.write_char(c),
     }
+}
+
+fn is_escaped(c: char) -> bool
+    ensures { result ≡ is_escaped c }
+{
+    escape(c).is_some()
 }
 
 // What stands for a character that is escaped.

@@ -6,10 +6,7 @@ use text::Hex;
 
 // Lengths up to some blocks, and around 2^16.
 pub fn print_lengths(rt: &HostRuntime) -> io::Result<()> {
-    for n in 0..201 {
-        print_length(rt, n)?;
-    }
-    for n in 65526..65547 {
+    for n in (0..201).chain(65526..65547) {
         print_length(rt, n)?;
     }
     Ok(())
@@ -38,11 +35,7 @@ fn print_length(rt: &HostRuntime, n: usize) -> io::Result<()> {
 }
 
 fn pattern(heap: Global, n: usize) -> Result<Vec<u8>, AllocError> {
-    let mut bytes = Vec::new(heap);
-    for i in 0..n {
-        bytes.push((i % 251) as u8)?;
-    }
-    Ok(bytes)
+    (0..n).map(|i| (i % 251) as u8).collect(heap)
 }
 
 // The digest of a message that is fed in pieces of 0, 1, 2 bytes and so on.

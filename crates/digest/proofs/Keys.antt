@@ -1,7 +1,7 @@
 -- A key's block: loaded, masked in place, and fed to the two digests of a code.
 use Rattle.std.proofs.Common.{◌≡◌, ℕ, ◌+◌, ◌-◌, ◌<◌, ◌≤◌, ltb, List, [], ◌∷◌, ◌++◌, length, get_or, take, drop, set, replicate, sym, refl, ap, ◌∙◌, arith}
 use lib.Bits.{bit_xor, xor_assoc, xor_self, xor_zero_r}
-use Rattle.std.proofs.lemmas.List.{append_assoc, append-nil, length-map, length-take, drop_more, drop_all, drop-replicate, take_all, set_at, get_or_at, map_more}
+use Rattle.std.proofs.lemmas.List.{append_assoc, length-map, length-take, drop_more, drop-replicate, set_at, get_or_at, map_more}
 use Rattle.std.proofs.lemmas.Bool.{cond-true, cond-false, lt-ltb, le-ltb}
 use Rattle.digest.specs.Sha1.{sha1}
 use Rattle.digest.specs.Hmac.{zero_filled, key_block, masked, hmac}
@@ -33,11 +33,6 @@ masked_more by was bytes i l e =
     ∙ (ap (λ (x : ℕ). masked by (take i was) ++ bit_xor x by ∷ drop (i + 1) was) (get_or_at done (get_or was i 0) (drop (i + 1) was) 0 i n)
     ∙ (sym (append_assoc done (bit_xor (get_or was i 0) by ∷ []) (drop (i + 1) was))
     ∙ ap (λ (x : List ℕ). x ++ drop (i + 1) was) (sym (map_more (λ (b : ℕ). bit_xor b by) was i 0 l)))))
-
-pub masked_all : (by : ℕ) (was bytes : List ℕ) (i : ℕ) → length was ≤ i → bytes ≡ masked by (take i was) ++ drop i was → bytes ≡ masked by was
-masked_all by was bytes i l e =
-    e ∙ (ap (λ (x : List ℕ). masked by x ++ drop i was) (take_all i was l)
-    ∙ (ap (λ (x : List ℕ). masked by was ++ x) (drop_all i was l) ∙ append-nil (masked by was)))
 
 -- a mask that is put on twice is taken off
 pub masked_twice : (by : ℕ) (block : List ℕ) → masked by (masked by block) ≡ block

@@ -1,5 +1,5 @@
 // Calls that look random and are the same in every run, some of them wrong.
-ghost use Rattle.std.specs.Prelude.{◌<◌, ◌≤◌};
+ghost use Rattle.std.specs.Prelude.{◌<◌};
 
 #[derive(Clone, Copy, Debug)]
 pub enum Call {
@@ -11,16 +11,13 @@ pub enum Call {
 #[derive(Drop)]
 pub struct Calls {
     state: u64,
-    // cells are drawn below this
-    cells: u64,
-    ghost in_range: { (0 < cells) × (cells ≤ 65536) },
+    // the highest cell that is drawn
+    last: u16,
 }
 
 impl Calls {
-    pub fn new(cells: u64) -> Self
-        requires { (0 < cells) × (cells ≤ 65536) }
-    {
-        Calls { state: 1, cells }
+    pub fn new(last: u16) -> Self {
+        Calls { state: 1, last }
     }
 
     fn below(&mut self, n: u64) -> u64
@@ -32,7 +29,7 @@ impl Calls {
     }
 
     fn cell(&mut self) -> u16 {
-        let cells = self.cells;
+        let cells = u64::from(self.last) + 1;
         self.below(cells) as u16
     }
 

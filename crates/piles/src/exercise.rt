@@ -1,24 +1,20 @@
 // Calls on any store, with each answer on a line.
-ghost use Rattle.std.specs.Prelude.{◌<◌, ◌≤◌};
-
 use crate::calls::{Call, Calls};
 use crate::told::Told;
 use std::io;
 use store::{Cell, Store, read_all};
 use text::Hex;
 
-// Calls the store as often as `turns` says, for cells below `cells`, prints its cells at the end where they are few, and gives it back.
+// Calls the store as often as `turns` says, for cells up to `last`, prints its cells at the end where they are few, and gives it back.
 pub fn exercise<S: Store + Drop>(
     rt: &HostRuntime,
     mut store: S,
-    cells: u64,
+    last: u16,
     turns: usize,
-) -> io::Result<S>
-    requires { (0 < cells) × (cells ≤ 65536) }
-{
+) -> io::Result<S> {
     let count = store.count();
     println!(rt; "count {count}")?;
-    for call in Calls::new(cells).take(turns) {
+    for call in Calls::new(last).take(turns) {
         print_answer(rt, &mut store, call)?;
     }
     if count < 100 {

@@ -50,7 +50,7 @@ pub fn print_small(rt: &HostRuntime) -> io::Result<()> {
 
 // An image by itself, and the same anew under piles.
 fn print_twice<I: Kept>(rt: &HostRuntime, bytes: Vec<u8>) -> io::Result<()> {
-    let _ = exercise(rt, I::of(bytes.clone()?), 9, 30)?;
+    let _ = exercise(rt, I::of(bytes.clone()?), 8, 30)?;
     let image = exercise_piles(rt, I::of(bytes))?;
     print_bytes(rt, image.bytes().as_slice())
 }
@@ -85,7 +85,7 @@ fn print_titled<T: Display + Drop, I: Kept>(
     image: I,
 ) -> io::Result<()> {
     println!(rt; "{title}")?;
-    let image = exercise(rt, image, 3, 6)?;
+    let image = exercise(rt, image, 2, 6)?;
     print_bytes(rt, image.bytes().as_slice())
 }
 
@@ -116,7 +116,7 @@ pub fn print_large(rt: &HostRuntime) -> io::Result<()> {
 
 // An image by itself, and then under piles.
 fn print_whole<I: Kept>(rt: &HostRuntime, image: I) -> io::Result<()> {
-    let image = exercise(rt, image, 65536, 60)?;
+    let image = exercise(rt, image, 65535, 60)?;
     let image = exercise_piles(rt, image)?;
     print_bytes(rt, image.bytes().as_slice())
 }

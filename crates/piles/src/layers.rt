@@ -19,29 +19,29 @@ pub fn exercise_piles<S: Store + Drop>(rt: &HostRuntime, mut store: S) -> io::Re
 fn one_window<S: Store + Drop>(rt: &HostRuntime, store: S, first: u16, most: u16) -> io::Result<S> {
     println!(rt; "window {first} {most}")?;
     let pile = Window::new(store, first, most);
-    Ok(exercise(rt, pile, 6, 12)?.into_below())
+    Ok(exercise(rt, pile, 5, 12)?.into_below())
 }
 
 fn one_guard<S: Store + Drop>(rt: &HostRuntime, store: S, allowance: u16) -> io::Result<S> {
     println!(rt; "guard {allowance}")?;
     let pile = WearGuard::new(store, allowance);
-    Ok(exercise(rt, pile, 9, 12)?.into_below())
+    Ok(exercise(rt, pile, 8, 12)?.into_below())
 }
 
 fn window_guard_window<S: Store + Drop>(rt: &HostRuntime, store: S) -> io::Result<S> {
     println!(rt; "window 1 4, guard 2, window 1 40")?;
     let pile = Window::new(WearGuard::new(Window::new(store, 1, 40), 2), 1, 4);
-    let pile = exercise(rt, pile, 6, 40)?;
+    let pile = exercise(rt, pile, 5, 40)?;
     Ok(pile.into_below().into_below().into_below())
 }
 
 // The layer that a refusal names, at each depth.
 fn four_windows<S: Store + Drop>(rt: &HostRuntime, store: S) -> io::Result<S> {
     println!(rt; "windows 0 9, 0 8, 0 7, 1 6, from below")?;
-    let one = exercise(rt, Window::new(store, 0, 9), 8, 12)?;
-    let two = exercise(rt, Window::new(one, 0, 8), 8, 12)?;
-    let three = exercise(rt, Window::new(two, 0, 7), 8, 12)?;
-    let four = exercise(rt, Window::new(three, 1, 6), 8, 20)?;
+    let one = exercise(rt, Window::new(store, 0, 9), 7, 12)?;
+    let two = exercise(rt, Window::new(one, 0, 8), 7, 12)?;
+    let three = exercise(rt, Window::new(two, 0, 7), 7, 12)?;
+    let four = exercise(rt, Window::new(three, 1, 6), 7, 20)?;
     Ok(four.into_below().into_below().into_below().into_below())
 }
 
@@ -49,6 +49,6 @@ fn four_windows<S: Store + Drop>(rt: &HostRuntime, store: S) -> io::Result<S> {
 fn guard_below<S: Store + Drop>(rt: &HostRuntime, store: S) -> io::Result<S> {
     println!(rt; "window 0 9, guard 1, guard 3, window 0 9")?;
     let guards = WearGuard::new(WearGuard::new(Window::new(store, 0, 9), 3), 1);
-    let pile = exercise(rt, Window::new(guards, 0, 9), 9, 30)?;
+    let pile = exercise(rt, Window::new(guards, 0, 9), 8, 30)?;
     Ok(pile.into_below().into_below().into_below().into_below())
 }

@@ -1,5 +1,4 @@
-use Rattle.std.proofs.Common.{◌≡◌, ℕ, ◌+◌, ◌*◌, ◌/◌, List, [], length, get_or, take, refl, ap, ◌∙◌, subst, arith, length-set}
-use Rattle.digest.specs.Words.{words_of}
+use Rattle.std.proofs.Common.{ℕ, ◌+◌, ◌*◌, ◌/◌, List, [], length, get_or, refl, ap, ◌∙◌, arith, length-set}
 use Rattle.digest.proofs.Words.{words_none, words_more, word_at-first_chunks}
 use Rattle.digest.proofs.block.loaded.Goals as goal
 
@@ -14,8 +13,3 @@ loop-i-preserved c =
     let read : (cs : List (List ℕ)) → ℕ = λ cs. get_or (get_or cs i []) 0 0 * 16777216 + get_or (get_or cs i []) 1 0 * 65536 + get_or (get_or cs i []) 2 0 * 256 + get_or (get_or cs i []) 3 0 in
     let word = c.from_be_bytes.ensures ∙ (ap read chunks ∙ word_at-first_chunks (length block / 4) i block [] (omega arith)) in
     (length-set c.loop-i.w i c.from_be_bytes.result ∙ c.loop-i.invariant.0, words_more block c.loop-i.w i _ (omega arith) c.loop-i.invariant.1 word)
-
-pub returns : goal.returns
-returns c =
-    let e : c.loop-i.i ≡ 16 = omega arith in
-    subst (λ (k : ℕ). take k c.loop-i.w ≡ words_of k c.args.block.now) e c.loop-i.invariant.1

@@ -6,10 +6,10 @@ use Rattle.std.proofs.lemmas.Bool.Decides.{nat_tests}
 use Rattle.store.specs.declared.cell.Cell.{Cell}
 use Rattle.store.specs.declared.refusal.Place.{Place}
 use Rattle.store.specs.Refusals.{Told, lower}
-use Rattle.store.specs.Cells.{none, at, Sized, Shaped, Unmoved, written, write_cells, write_answer}
+use Rattle.store.specs.Cells.{none, at, Sized, Shaped, Unmoved, present, fitted, written, write_cells, write_answer}
 use Rattle.store.specs.Tables.{table}
 use Rattle.store.specs.Layers.{allowed, guard, guard_place, WornIsNamed}
-use Rattle.store.proofs.Calls.{answered_write}
+use Rattle.store.proofs.Calls.{there, fits, answered_write}
 use Rattle.store.proofs.Tabled.{length-table, get_or-table, table-set}
 
 abbrev left_of : Cell → ℕ
@@ -27,6 +27,13 @@ module _ (rest : List ℕ) (cs : List Cell) where
   pub at-guard : (k : ℕ) → k < min 32 (length cs) → at (guard rest cs) k ≡ allowed (get_or rest k 0) (at cs k)
   unfolding guard
   at-guard k h = get_or-table _ _ k none h
+
+  -- a call that passed the test of its shape
+  pub guard_fits : (n k len : ℕ) (u : Unit {0}) → n ≡ length (guard rest cs) → Ok u ≡ fitted n k len (Ok tt) → (len ≡ 20) × (k < min 32 (length cs))
+  guard_fits n k len u e f = let q = fits n k len u f in (q.0, omega (arith, length-guard))
+
+  pub guard_there : (n k : ℕ) (u : Unit {0}) → n ≡ length (guard rest cs) → Ok u ≡ present n k (Ok tt) → k < min 32 (length cs)
+  guard_there n k u e f = let q = there n k u f in omega (arith, length-guard)
 
   pub guard_shaped : Shaped cs → Shaped (guard rest cs)
   guard_shaped s =
@@ -103,18 +110,19 @@ module _ (rest : List ℕ) (cs : List Cell) where
 
       -- the store below refused
       module _ (t : Told) (o : ◌≡◌ {A = Result (Unit {0}) Told} (Err t) (write_answer cs place k v)) where
-        pub guard_refused : (up : Told) → up ≡ lower t → Err up ≡ write_answer (guard rest cs) (guard_place rest cs place) k v
-        guard_refused up l =
+        pub guard_refused : Err (lower t) ≡ write_answer (guard rest cs) (guard_place rest cs place) k v
+        guard_refused =
             let e = length-guard in
             let a = at-guard k h in
             grind (arith, nat_tests)
 
-        pub guard_kept : guard rest cs ≡ write_cells (guard rest cs) k v
-        guard_kept =
+        pub guard_kept : (cs' : List Cell) → cs' ≡ write_cells cs k v → guard rest cs' ≡ write_cells (guard rest cs) k v
+        guard_kept cs' ec =
             let e = length-guard in
             let a = at-guard k h in
             let b : (at cs k).left ≡ 0 = grind (arith, nat_tests) in
-            grind (arith, nat_tests)
+            let same : cs' ≡ cs = grind (arith, nat_tests) in
+            ap (guard rest) same ∙ grind (arith, nat_tests)
 
 pub worn_is_named_lem : WornIsNamed
 worn_is_named_lem rest cs below k = record { by_guard = λ z. grind (arith, nat_tests); by_below = λ l z. grind (arith, nat_tests) }

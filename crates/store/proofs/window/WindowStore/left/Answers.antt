@@ -1,6 +1,6 @@
-use Rattle.std.proofs.Common.{◌-◌, ◌<◌, min, length, arith}
+use Rattle.std.proofs.Common.{arith}
 use Rattle.std.proofs.lemmas.Bool.Decides.{nat_tests}
-use Rattle.store.proofs.Windows.{length-window, at-window}
+use Rattle.store.proofs.Windows.{length-window, window_there, at-window}
 use Rattle.store.proofs.window.WindowStore.left.Goals as goal
 
 pub returns : goal.returns
@@ -8,6 +8,5 @@ returns g c =
     let b = c.args.self.now.bounds in
     let cs = g.S.Store.cells c.args.self.now.below in
     let e = length-window b.first b.most cs in
-    let h : c.args.cell < min b.most (length cs - b.first) = omega arith in
-    let a = at-window b.first b.most cs c.args.cell h in
+    let a = at-window b.first b.most cs _ (window_there b.first b.most cs _ c.args.cell _ c.shown.ensures.answer c.in_ok-present.ensures) in
     grind (arith, nat_tests)

@@ -32,6 +32,7 @@ impl Allowances {
 }
 
 // A guard names itself for worn exactly where its allowance is used up.
+#[tactic(auto, using(crate::proofs::Guards::worn_is_named_lem))]
 pub fn worn_is_named()
     ensures { WornIsNamed }
 {}
@@ -68,6 +69,7 @@ impl<S: Store> WearGuard<S> {
     }
 }
 
+#[tactic(auto, using(crate::proofs::Guards::guards))]
 impl<S: Store> Store for WearGuard<S> {
     ghost cells = { λ g. guard g.allowances.rest (S.Store.cells g.below) };
 

@@ -20,6 +20,7 @@ pub struct Window<S> {
     bounds: Bounds,
 }
 
+#[tactic(auto, using(crate::proofs::Windows::windows))]
 impl<S: Store> Window<S> {
     pub fn new(below: S, first: u16, most: u16) -> Window<S>
         ensures { result ≡ record { below = below; bounds = record { first = first; most = most } } }
@@ -51,6 +52,7 @@ impl<S: Store> Window<S> {
     }
 }
 
+#[tactic(auto, using(crate::proofs::Windows::windows))]
 impl<S: Store> Store for Window<S> {
     ghost cells = { λ w. window w.bounds.first w.bounds.most (S.Store.cells w.below) };
 

@@ -1,5 +1,6 @@
 -- Where an image keeps its numbers and values. Both kinds of image begin with two numbers, the first of which is the count of cells; then comes a number for each cell, and then come values.
-use Rattle.std.specs.Prelude.{ℕ, zero, suc, ◌+◌, ◌*◌, ◌/◌, ◌%◌, List, [], ◌∷◌, ◌++◌, length, take, drop, replicate, slice_index}
+use Rattle.std.specs.Prelude.{ℕ, ◌+◌, ◌*◌, ◌/◌, ◌%◌, List, [], ◌∷◌, ◌++◌, length, take, drop, replicate, slice_index}
+use Rattle.std.specs.List.{repeat}
 
 -- the number in the two bytes from place p on, the high byte first
 abbrev pub number_at : List ℕ → ℕ → ℕ
@@ -36,11 +37,6 @@ overlay bs p xs = take p bs ++ (xs ++ drop (p + length xs) bs)
 abbrev pub altered : List ℕ → ℕ → ℕ → ℕ → List ℕ → List ℕ
 altered bs k m i v = overlay (overlay bs (value_place (count_in bs) i) v) (number_place k) (number_bytes m)
 
--- a list over and over
-unfoldable pub repeated : ℕ → List ℕ → List ℕ
-repeated zero xs = []
-repeated (suc k) xs = repeated k xs ++ xs
-
 -- an image of n cells with the number m each, and values that are all zeros
 abbrev pub blank : ℕ → ℕ → ℕ → ℕ → List ℕ
-blank n second m values = (number_bytes n ++ number_bytes second) ++ (repeated n (number_bytes m) ++ replicate (20 * values) 0)
+blank n second m values = (number_bytes n ++ number_bytes second) ++ (repeat n (number_bytes m) ++ replicate (20 * values) 0)

@@ -1,22 +1,37 @@
 // Which kind of image bytes are.
-ghost use Rattle.std.specs.Prelude.{◌≡◌};
-ghost use Rattle.image.specs.Kinds.{kind_number, kind_in};
+ghost use Rattle.std.specs.Prelude.{◌≡◌, Some};
+ghost use Rattle.image.specs.Kinds.{kind_number, kind_in, kind_name};
 
-use crate::cell_image::is_cell_image;
-use crate::strip_image::calls::is_strip_image;
+use crate::cell_layout::Cells;
+use crate::layout::Layout;
+use crate::strip_layout::Strips;
+use std::fmt;
 
+// The contract of `kind_of` states a kind by `kind_number`, as the module's rules number the kinds.
+#[derive(Clone, Copy, Debug, PartialEq, Eq)]
 pub enum Kind {
     Cells,
     Strips,
+}
+
+impl fmt::Display for Kind {
+    ghost output = { λ k. Some (kind_name k) };
+
+    fn fmt<W: fmt::Write>(&self, f: &mut fmt::Formatter<W>) -> fmt::Result {
+        match self {
+            Kind::Cells => write!(f, "cell"),
+            Kind::Strips => write!(f, "strip"),
+        }
+    }
 }
 
 // None where they are no image. An image of no cells that is of both kinds passes for a cell image.
 pub fn kind_of(bytes: &[u8]) -> Option<Kind>
     ensures { kind_number result ≡ kind_in bytes.now }
 {
-    if is_cell_image(bytes) {
+    if Cells::is_image(bytes) {
         Some(Kind::Cells)
-    } else if is_strip_image(bytes) {
+    } else if Strips::is_image(bytes) {
         Some(Kind::Strips)
     } else {
         None

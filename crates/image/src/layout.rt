@@ -1,76 +1,62 @@
-// The bytes of an image: numbers of two bytes, the high byte first, and values of twenty.
-ghost use Rattle.std.specs.Prelude.{◌≡◌, ◌+◌, ◌*◌, ◌^◌, ◌<◌, ◌≤◌, length, IfOk};
-ghost use Rattle.image.specs.Bytes.{number_bytes, number_at, count_in, number, number_place, value, value_place, overlay, altered, blank};
+// What every layout of cells in bytes offers, and what each of its calls means.
+ghost use Rattle.std.specs.Prelude.{◌≡◌, ℕ, ◌<◌, Bool, true, cond, List, length, replicate, Some, None, IfOk};
+ghost use Rattle.std.specs.Option.{unwrap_or};
+ghost use Rattle.store.specs.declared.cell.Cell.{Cell};
+ghost use Rattle.store.specs.Cells.{cell, at, Shaped, write_cells};
+ghost use Rattle.image.specs.Bytes.{count_in};
+ghost use Rattle.image.specs.Images.{zeros};
 
 use std::alloc::{AllocError, Global};
 
-// The number in the two bytes from `at` on.
-pub(crate) fn number_at(bytes: &[u8], at: usize) -> u16
-    requires { at + 1 < length bytes.now }
-    ensures { result ≡ number_at bytes.now at }
-{
-    u16::from_be_bytes([bytes[at], bytes[at + 1]])
-}
+// How cells lie in the bytes of an image. The functions do the work of a store on bytes that are known to have the cell.
+pub trait Layout {
+    // Whether bytes are an image of this layout.
+    ghost is_image: { List ℕ → Bool };
 
-// The number of a cell.
-pub(crate) fn number_of(bytes: &[u8], cell: u16) -> u16
-    requires { number_place cell + 1 < length bytes.now }
-    ensures { result ≡ number bytes.now cell }
-{
-    number_at(bytes, 4 + 2 * usize::from(cell))
-}
+    // The cells that bytes show.
+    ghost cells: { List ℕ → List Cell };
 
-// Copies one of the values.
-pub(crate) fn copy_value(bytes: &[u8], slot: usize, into: &mut [u8])
-    requires { (value_place (count_in bytes.now) slot + 20 ≤ length bytes.now) × (length into.old ≡ 20) }
-    ensures { into.new ≡ value bytes.now slot }
-{
-    let count = usize::from(number_at(bytes, 0));
-    let at = 4 + 2 * count + 20 * slot;
-    into.copy_from_slice(&bytes[at..at + 20]);
-}
+    // The bytes after a write of a value to a cell.
+    ghost written: { List ℕ → ℕ → List ℕ → List ℕ };
 
-// Lays `from` over the bytes from `at` on.
-fn put(bytes: &mut [u8], at: usize, from: &[u8])
-    requires { at + length from.now ≤ length bytes.old }
-    ensures { bytes.new ≡ overlay bytes.old at from.now }
-{
-    bytes[at..at + from.len()].copy_from_slice(from);
-}
+    // The bytes of cells of zeros with so many writes each.
+    ghost blank: { ℕ → ℕ → List ℕ };
 
-fn number_bytes(number: u16) -> [u8; 2]
-    ensures { result ≡ number_bytes number }
-{
-    number.to_be_bytes()
-}
+    // How many cells bytes show; none where they are no image, and then they show no cells.
+    fn count(bytes: &[u8]) -> Option<u16>
+        ensures answer { result ≡ cond (is_image bytes.now) (Some (count_in bytes.now)) None }
+        ensures shown { unwrap_or result 0 ≡ length (cells bytes.now) }
+        ensures shape { Shaped (cells bytes.now) };
 
-// Alters the number of a cell and one of the values.
-pub(crate) fn alter(bytes: &mut [u8], cell: u16, number: u16, slot: usize, from: &[u8])
-    requires { (cell < count_in bytes.old) × ((value_place (count_in bytes.old) slot + 20 ≤ length bytes.old) × (length from.now ≡ 20)) }
-    ensures { bytes.new ≡ altered bytes.old cell number slot from.now }
-{
-    let count = usize::from(number_at(bytes, 0));
-    put(bytes, 4 + 2 * count + 20 * slot, from);
-    put(bytes, 4 + 2 * usize::from(cell), &number_bytes(number));
-}
-
-// The bytes of an image whose cells all have one number, with so many values of zeros.
-pub(crate) fn blank_bytes(
-    heap: Global,
-    count: u16,
-    second: u16,
-    each: u16,
-    values: usize,
-) -> Result<Vec<u8>, AllocError>
-    requires { values < 2 ^ 32 }
-    ensures { IfOk result (λ v. v.items ≡ blank count second each values) }
-{
-    let mut bytes = Vec::new(heap);
-    bytes.extend_from_slice(&number_bytes(count))?;
-    bytes.extend_from_slice(&number_bytes(second))?;
-    for _ in 0..count {
-        bytes.extend_from_slice(&number_bytes(each))?;
+    fn is_image(bytes: &[u8]) -> bool
+        ensures { result ≡ is_image bytes.now }
+    {
+        Self::count(bytes).is_some()
     }
-    bytes.resize(4 + 2 * usize::from(count) + 20 * values, 0)?;
-    Ok(bytes)
+
+    // Copies the value of a cell.
+    fn read(bytes: &[u8], cell: u16, into: &mut [u8])
+        requires there { cell < length (cells bytes.now) }
+        requires twenty { length into.old ≡ 20 }
+        ensures { into.new ≡ (at (cells bytes.now) cell).value };
+
+    // How many writes a cell has left.
+    fn left(bytes: &[u8], cell: u16) -> u16
+        requires { cell < length (cells bytes.now) }
+        ensures { result ≡ (at (cells bytes.now) cell).left };
+
+    // Writes a value to a cell that has writes left.
+    fn write(bytes: &mut [u8], cell: u16, from: &[u8])
+        requires there { cell < length (cells bytes.old) }
+        requires unworn { 0 < (at (cells bytes.old) cell).left }
+        requires twenty { length from.now ≡ 20 }
+        ensures bytes { bytes.new ≡ written bytes.old cell from.now }
+        ensures after { cells bytes.new ≡ write_cells (cells bytes.old) cell from.now }
+        ensures shape { Shaped (cells bytes.new) };
+
+    // The bytes of a store of zeros.
+    fn blank(heap: Global, count: u16, writes: u16) -> Result<Vec<u8>, AllocError>
+        ensures bytes { IfOk result (λ v. v.items ≡ blank count writes) }
+        ensures image { IfOk result (λ v. is_image v.items ≡ true) }
+        ensures shown { IfOk result (λ v. cells v.items ≡ replicate count (cell zeros writes)) };
 }

@@ -5,12 +5,16 @@
 //     let bytes = store.into_bytes();
 #![tactic(auto)]
 
-pub mod cell_image;
+mod bytes;
+pub mod cell_layout;
 pub mod examples;
+pub mod images;
 pub mod kinds;
-mod layout;
-pub mod strip_image;
+pub mod layout;
+pub mod strip_layout;
 
-pub use cell_image::CellImage;
+pub use cell_layout::Cells;
+pub use images::{CellImage, Image, StripImage};
 pub use kinds::{Kind, kind_of};
-pub use strip_image::StripImage;
+pub use layout::Layout;
+pub use strip_layout::Strips;

@@ -1,19 +1,15 @@
 -- A guard's cells: how many, which, and after a write.
-use Rattle.std.proofs.Common.{◌≡◌, ℕ, ◌-◌, ◌<◌, min, List, length, get_or, set, Ok, Err, Result, sym, ap, ◌∙◌, subst, inl, inr, arith, length-set}
+use Rattle.std.proofs.Common.{◌≡◌, ℕ, ◌-◌, ◌<◌, min, List, length, get_or, set, sym, ap, ◌∙◌, subst, inl, inr, arith, length-set}
 use Rattle.std.proofs.lemmas.List.{get_or-set_same, get_or-set_other, get_or_past}
 use Rattle.std.proofs.lemmas.Bool.{cases_lt, cases_eq}
 use Rattle.std.proofs.lemmas.Bool.Decides.{nat_tests}
 use Rattle.store.specs.declared.cell.Cell.{Cell}
 use Rattle.store.specs.declared.refusal.Place.{Place}
-use Rattle.store.specs.Refusals.{Told, lower}
-use Rattle.store.specs.Cells.{none, at, Sized, Shaped, Unmoved, written, write_cells, write_answer}
+use Rattle.store.specs.Cells.{none, at, Sized, Shaped, Unmoved, written, write_cells}
 use Rattle.store.specs.Tables.{table}
 use Rattle.store.specs.Layers.{allowed, guard, guard_place, WornIsNamed}
 use Rattle.store.proofs.Calls.{answered_write}
 use Rattle.store.proofs.Tabled.{length-table, get_or-table, table-set}
-
-abbrev left_of : Cell → ℕ
-left_of c = c.left
 
 -- where a list holds more than the default, there is a place
 within : (xs : List ℕ) (k : ℕ) → 0 < get_or xs k 0 → k < length xs
@@ -70,51 +66,32 @@ module _ (rest : List ℕ) (cs : List Cell) where
         ap (λ (x : ℕ). allowed x (at below j)) (get_or-set_other rest k j _ 0 q)
         ∙ ap (λ (x : Cell). allowed (get_or rest j 0) x) (get_or-set_other cs k j _ none q))
 
-    module _ (place : ℕ → Place) (lv : length v ≡ 20) where
-      -- the store below wrote
-      module _ (u : Unit {0}) (o : Ok u ≡ write_answer cs place k v) where
-        had : 0 < (at cs k).left
-        had = grind (arith, nat_tests)
+    -- the store below wrote
+    module _ (hc : 0 < (at cs k).left) (lv : length v ≡ 20) (rest' : List ℕ) (cs' : List Cell) (er : rest' ≡ spent) (ec : cs' ≡ write_cells cs k v) where
+      below_after : cs' ≡ below
+      below_after = grind (arith, nat_tests)
 
-        module _ (rest' : List ℕ) (cs' : List Cell) (er : rest' ≡ spent) (ec : cs' ≡ write_cells cs k v) where
-          below_after : cs' ≡ below
-          below_after = let b = had in grind (arith, nat_tests)
+      pub guard_after : guard rest' cs' ≡ write_cells (guard rest cs) k v
+      guard_after =
+          answered_write (guard rest cs) k (omega (arith, length-guard)) v lv (guard rest' cs')
+          (omega (arith, ap (λ (c : Cell). c.left) (at-guard k h), hc))
+          (ap (λ (x : List ℕ). guard x cs') er ∙ ap (guard spent) below_after ∙ guard-set hc)
 
-          pub guard_written : (Ok tt ≡ write_answer (guard rest cs) (guard_place rest cs place) k v) × (guard rest' cs' ≡ write_cells (guard rest cs) k v)
-          guard_written =
-              answered_write (guard rest cs) k (omega (arith, length-guard)) (guard_place rest cs place) v lv (guard rest' cs')
-              (omega (arith, ap left_of (at-guard k h), had))
-              (ap (λ (x : List ℕ). guard x cs') er ∙ ap (guard spent) below_after ∙ guard-set had)
-
-          -- where a write is refused does not move, since both numbers fall by one
-          pub guard_settled : (place' : ℕ → Place) → Unmoved place place' → Unmoved (guard_place rest cs place) (guard_place rest' cs' place')
-          guard_settled place' same j =
-              let p = same j in
-              let b = had in
-              let r : get_or rest' j 0 ≡ get_or spent j 0 = ap (λ (x : List ℕ). get_or x j 0) er in
-              let c : at cs' j ≡ at below j = ap (λ (x : List Cell). at x j) below_after in
-              elim (cases_eq j k) [
-                | inl q ↦ let s = spent_here in let t = below_here in grind (arith, nat_tests)
-                | inr q ↦
-                    let s = get_or-set_other rest k j (get_or rest k 0 - 1) 0 q in
-                    let t = get_or-set_other cs k j (written (at cs k) v) none q in
-                    grind (arith, nat_tests)
-              ]
-
-      -- the store below refused
-      module _ (t : Told) (o : ◌≡◌ {A = Result (Unit {0}) Told} (Err t) (write_answer cs place k v)) where
-        pub guard_refused : (up : Told) → up ≡ lower t → Err up ≡ write_answer (guard rest cs) (guard_place rest cs place) k v
-        guard_refused up l =
-            let e = length-guard in
-            let a = at-guard k h in
-            grind (arith, nat_tests)
-
-        pub guard_kept : guard rest cs ≡ write_cells (guard rest cs) k v
-        guard_kept =
-            let e = length-guard in
-            let a = at-guard k h in
-            let b : (at cs k).left ≡ 0 = grind (arith, nat_tests) in
-            grind (arith, nat_tests)
+      -- where a write is refused does not move, since both numbers fall by one
+      pub guard_settled : (place place' : ℕ → Place) → Unmoved place place' → Unmoved (guard_place rest cs place) (guard_place rest' cs' place')
+      guard_settled place place' same j =
+          let p = same j in
+          let r : get_or rest' j 0 ≡ get_or spent j 0 = ap (λ (x : List ℕ). get_or x j 0) er in
+          let c : at cs' j ≡ at below j = ap (λ (x : List Cell). at x j) below_after in
+          elim (cases_eq j k) [
+            | inl q ↦ let s = spent_here in let t = below_here in grind (arith, nat_tests)
+            | inr q ↦
+                let s = get_or-set_other rest k j (get_or rest k 0 - 1) 0 q in
+                let t = get_or-set_other cs k j (written (at cs k) v) none q in
+                grind (arith, nat_tests)
+          ]
 
 pub worn_is_named_lem : WornIsNamed
 worn_is_named_lem rest cs below k = record { by_guard = λ z. grind (arith, nat_tests); by_below = λ l z. grind (arith, nat_tests) }
+
+pub ruleset guards = (length-guard, at-guard, guard_shaped, guard_after, guard_settled)

@@ -1,12 +1,12 @@
 -- A window's cells: how many, which, and after a write.
-use Rattle.std.proofs.Common.{◌≡◌, ℕ, ◌+◌, ◌-◌, ◌<◌, min, List, length, take, drop, set, Ok, Err, Result, sym, ap, ◌∙◌, subst, arith, length-drop, length-take}
+use Rattle.std.proofs.Common.{◌≡◌, ℕ, ◌+◌, ◌-◌, ◌<◌, min, List, length, take, drop, set, sym, ap, ◌∙◌, subst, arith, length-drop, length-take}
 use lib.Seq.{take-set-lt}
 use Rattle.std.proofs.lemmas.List.{get_or-take, get_or-drop, drop-set-add}
 use Rattle.std.proofs.lemmas.Bool.Decides.{nat_tests}
 use Rattle.store.specs.declared.cell.Cell.{Cell}
 use Rattle.store.specs.declared.refusal.Place.{Place}
-use Rattle.store.specs.Refusals.{Told, lower, deeper}
-use Rattle.store.specs.Cells.{none, at, Sized, Shaped, Unmoved, written, write_cells, write_answer}
+use Rattle.store.specs.Refusals.{deeper}
+use Rattle.store.specs.Cells.{none, at, Sized, Shaped, Unmoved, written, write_cells}
 use Rattle.store.specs.Layers.{window, window_place}
 
 module _ (f m : ℕ) (cs : List Cell) where
@@ -35,22 +35,6 @@ module _ (f m : ℕ) (cs : List Cell) where
         let w = ap (window f m) after in
         grind (arith, nat_tests)
 
-    module _ (place : ℕ → Place) (v : List ℕ) (lv : length v ≡ 20) where
-      -- the store below wrote
-      pub window_wrote : (u : Unit {0}) → Ok u ≡ write_answer cs place (f + k) v → Ok tt ≡ write_answer (window f m cs) (window_place f place) k v
-      window_wrote u o =
-          let e = length-window in
-          let a = at-window in
-          grind (arith, nat_tests)
-
-      -- the store below refused
-      pub window_refused : (t up : Told) → ◌≡◌ {A = Result (Unit {0}) Told} (Err t) (write_answer cs place (f + k) v) → up ≡ lower t
-          → Err up ≡ write_answer (window f m cs) (window_place f place) k v
-      window_refused t up o l =
-          let e = length-window in
-          let a = at-window in
-          grind (arith, nat_tests)
-
   pub window_shaped : Shaped cs → Shaped (window f m cs)
   window_shaped s =
       let e = length-window in
@@ -61,3 +45,5 @@ module _ (f m : ℕ) (cs : List Cell) where
 
 pub window_settled : (f : ℕ) (place place' : ℕ → Place) → Unmoved place place' → Unmoved (window_place f place) (window_place f place')
 window_settled f place place' same k = ap deeper (same (f + k))
+
+pub ruleset windows = (length-window, at-window, window_shaped, window_after, window_settled)

@@ -25,9 +25,13 @@ pub record Shaped (cs : List Cell) : Type 0 where
   pub few : length cs < 65536
   pub each : (k : ℕ) → k < length cs → Sized (at cs k)
 
--- what a call for cell k of n with len bytes answers: misfit, then absent, and else what the call itself has to say
+-- what a call for cell k of n answers: absent, or else what the call itself has to say
+abbrev pub present : {X : Type 0} → ℕ → ℕ → Result X Told → Result X Told
+present n k r = cond (nat_lt k n) r (Err (absent k))
+
+-- the same with len bytes: misfit comes first
 abbrev pub fitted : {X : Type 0} → ℕ → ℕ → ℕ → Result X Told → Result X Told
-fitted n k len r = cond (len == 20) (cond (nat_lt k n) r (Err (absent k))) (Err (misfit k))
+fitted n k len r = cond (len == 20) (present n k r) (Err (misfit k))
 
 abbrev pub read_answer : List Cell → ℕ → ℕ → Result (Unit {0}) Told
 read_answer cs k len = fitted (length cs) k len (Ok tt)
@@ -37,7 +41,7 @@ abbrev pub read_bytes : List Cell → ℕ → List ℕ → List ℕ
 read_bytes cs k into = cond (length into == 20) (cond (nat_lt k (length cs)) (at cs k).value into) into
 
 abbrev pub left_answer : List Cell → ℕ → Result ℕ Told
-left_answer cs k = cond (nat_lt k (length cs)) (Ok (at cs k).left) (Err (absent k))
+left_answer cs k = present (length cs) k (Ok (at cs k).left)
 
 abbrev pub write_answer : List Cell → (ℕ → Place) → ℕ → List ℕ → Result (Unit {0}) Told
 write_answer cs place k v = fitted (length cs) k (length v) (cond (nat_lt 0 (at cs k).left) (Ok tt) (Err (worn (place k))))

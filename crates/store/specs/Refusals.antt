@@ -1,5 +1,5 @@
 -- What a refusal says: the number of its cause, and where it arose.
-use Rattle.std.specs.Prelude.{ℕ, ◌+◌, min, Ok, Err, Result}
+use Rattle.std.specs.Prelude.{ℕ, ◌+◌, min, List, ◌++◌, codes, decimal, Ok, Err, Result}
 use Rattle.store.specs.declared.refusal.Place.{Place}
 use Rattle.store.specs.declared.refusal.Refusal.{Refusal}
 use Rattle.store.specs.declared.refusal.Refusal.TheVariants.{Misfit, Absent, Worn}
@@ -39,3 +39,13 @@ lower t = (t.0, deeper t.1)
 abbrev pub said : {X : Type 0} → Result X Refusal → Result X Told
 said (Ok x) = Ok x
 said (Err r) = Err (told r)
+
+-- the layers down and the cell there, in decimal
+abbrev pub place_text : Place → List ℕ
+place_text p = decimal p.layer ++ codes " " ++ decimal p.cell
+
+-- the word for the cause, and the place
+abbrev pub refusal_text : Refusal → List ℕ
+refusal_text (Misfit p) = codes "misfit " ++ place_text p
+refusal_text (Absent p) = codes "absent " ++ place_text p
+refusal_text (Worn p) = codes "worn " ++ place_text p

@@ -1,5 +1,5 @@
 // A cell: its value, and how many more times it can be written.
-#[derive(Clone, Copy)]
+#[derive(Clone, Copy, Debug, PartialEq, Eq)]
 pub struct Cell {
     pub value: [u8; 20],
     pub left: u16,

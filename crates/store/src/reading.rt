@@ -23,12 +23,12 @@ pub fn read_all<S: Store>(store: &S, into: &mut [Cell]) -> Result<u16, Refusal>
     ensures cells { into.new ≡ all_cells (S.Store.cells store.now) into.old }
 {
     let count = store.count();
-    let room = into.len().min(65535) as u16;
+    let room = u16::try_from(into.len()).unwrap_or(u16::MAX);
     if room < count {
         return Err(Refusal::Misfit(Place::here(room)));
     }
-    for cell in 0..count {
-        into[cell as usize] = cell_of(store, cell)?;
+    for (cell, slot) in into[..usize::from(count)].iter_mut().enumerate() {
+        *slot = cell_of(store, cell as u16)?;
     }
     Ok(count)
 }

@@ -1,10 +1,13 @@
 // Why a store refuses a call, and where the refusal arose.
-ghost use Rattle.std.specs.Prelude.{◌≡◌, Ok};
-ghost use Rattle.store.specs.Refusals.{here, deeper, lower, told, said};
-ghost use Rattle.store.specs.Cells.{fitted};
+ghost use Rattle.std.specs.Prelude.{◌≡◌, Ok, Some};
+ghost use Rattle.store.specs.Refusals.{here, deeper, lower, told, said, place_text, refusal_text};
+ghost use Rattle.store.specs.Cells.{present, fitted};
+
+use std::error::Error;
+use std::fmt;
 
 // Where a refusal arose: how many layers below the store that was called, and the cell there.
-#[derive(Clone, Copy)]
+#[derive(Clone, Copy, Debug, PartialEq, Eq)]
 pub struct Place {
     pub layer: u16,
     pub cell: u16,
@@ -29,7 +32,17 @@ impl Place {
     }
 }
 
-#[derive(Clone, Copy)]
+impl fmt::Display for Place {
+    ghost output = { λ p. Some (place_text p) };
+
+    fn fmt<W: fmt::Write>(&self, f: &mut fmt::Formatter<W>) -> fmt::Result {
+        let Place { layer, cell } = *self;
+        write!(f, "{layer} {cell}")
+    }
+}
+
+// Contracts state a refusal by `told`, which gives each cause its number beside its place: the rules order the causes by it.
+#[derive(Clone, Copy, Debug, PartialEq, Eq)]
 pub enum Refusal {
     // the bytes to read into or to write from are not twenty
     Misfit(Place),
@@ -52,15 +65,37 @@ impl Refusal {
     }
 }
 
-// What a store of `count` cells says to a call for a cell with `len` bytes, before anything else.
+impl fmt::Display for Refusal {
+    ghost output = { λ r. Some (refusal_text r) };
+
+    fn fmt<W: fmt::Write>(&self, f: &mut fmt::Formatter<W>) -> fmt::Result {
+        match *self {
+            Refusal::Misfit(place) => write!(f, "misfit {place}"),
+            Refusal::Absent(place) => write!(f, "absent {place}"),
+            Refusal::Worn(place) => write!(f, "worn {place}"),
+        }
+    }
+}
+
+impl Error for Refusal {}
+
+// What a store of `count` cells says to a call for a cell, before anything else.
+pub fn present(count: u16, cell: u16) -> Result<(), Refusal>
+    ensures { said result ≡ present count cell (Ok tt) }
+{
+    if cell < count {
+        Ok(())
+    } else {
+        Err(Refusal::Absent(Place::here(cell)))
+    }
+}
+
+// The same where the call brings `len` bytes too.
 pub fn fit(count: u16, cell: u16, len: usize) -> Result<(), Refusal>
     ensures { said result ≡ fitted count cell len (Ok tt) }
 {
     if len != 20 {
-        Err(Refusal::Misfit(Place::here(cell)))
-    } else if cell >= count {
-        Err(Refusal::Absent(Place::here(cell)))
-    } else {
-        Ok(())
+        return Err(Refusal::Misfit(Place::here(cell)));
     }
+    present(count, cell)
 }

@@ -3,13 +3,13 @@ ghost use Rattle.std.specs.Prelude.{◌≡◌, ◌-◌, ◌<◌, replicate, slic
 ghost use Rattle.store.specs.Layers.{guard, guard_place, WornIsNamed};
 
 use crate::interface::Store;
-use crate::refusal::{Place, Refusal, fit};
+use crate::refusal::{Place, Refusal, fit, present};
 
 // How many cells a guard shows.
 const SHOWN: u16 = 32;
 
 // What is left of each cell's allowance.
-#[derive(Clone, Copy)]
+#[derive(Clone, Copy, Debug, PartialEq, Eq)]
 pub struct Allowances {
     rest: [u16; 32],
 }
@@ -32,10 +32,12 @@ impl Allowances {
 }
 
 // A guard names itself for worn exactly where its allowance is used up.
+#[tactic(auto, using(crate::proofs::Guards::worn_is_named_lem))]
 pub fn worn_is_named()
     ensures { WornIsNamed }
 {}
 
+// Contracts name the fields, as those of a window do.
 #[derive(Drop)]
 pub struct WearGuard<S> {
     below: S,
@@ -67,6 +69,7 @@ impl<S: Store> WearGuard<S> {
     }
 }
 
+#[tactic(auto, using(crate::proofs::Guards::guards))]
 impl<S: Store> Store for WearGuard<S> {
     ghost cells = { λ g. guard g.allowances.rest (S.Store.cells g.below) };
 
@@ -84,9 +87,7 @@ impl<S: Store> Store for WearGuard<S> {
     }
 
     fn left(&self, cell: u16) -> Result<u16, Refusal> {
-        if cell >= self.count() {
-            return Err(Refusal::Absent(Place::here(cell)));
-        }
+        present(self.count(), cell)?;
         let left = self.below.left(cell)?;
         Ok(left.min(self.allowances.of(cell)))
     }
@@ -96,12 +97,8 @@ impl<S: Store> Store for WearGuard<S> {
         if self.allowances.of(cell) == 0 {
             return Err(Refusal::Worn(Place::here(cell)));
         }
-        match self.below.write(cell, from) {
-            Ok(()) => {
-                self.allowances.spend(cell);
-                Ok(())
-            }
-            Err(refusal) => Err(refusal.deeper()),
-        }
+        self.below.write(cell, from).map_err(Refusal::deeper)?;
+        self.allowances.spend(cell);
+        Ok(())
     }
 }

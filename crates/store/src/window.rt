@@ -4,21 +4,23 @@ ghost use Rattle.store.specs.Cells.{Shaped};
 ghost use Rattle.store.specs.Layers.{window, window_place};
 
 use crate::interface::Store;
-use crate::refusal::{Place, Refusal, fit};
+use crate::refusal::{Refusal, fit, present};
 
 // Which cells are shown: up to `most`, from cell `first` of the store below on.
-#[derive(Clone, Copy)]
+#[derive(Clone, Copy, Debug, PartialEq, Eq)]
 pub struct Bounds {
     pub first: u16,
     pub most: u16,
 }
 
+// Contracts name the fields and not a list of cells, which would not tell that `into_below` gives back the very store below.
 #[derive(Drop)]
 pub struct Window<S> {
     below: S,
     bounds: Bounds,
 }
 
+#[tactic(auto, using(crate::proofs::Windows::windows))]
 impl<S: Store> Window<S> {
     pub fn new(below: S, first: u16, most: u16) -> Window<S>
         ensures { result ≡ record { below = below; bounds = record { first = first; most = most } } }
@@ -50,6 +52,7 @@ impl<S: Store> Window<S> {
     }
 }
 
+#[tactic(auto, using(crate::proofs::Windows::windows))]
 impl<S: Store> Store for Window<S> {
     ghost cells = { λ w. window w.bounds.first w.bounds.most (S.Store.cells w.below) };
 
@@ -67,17 +70,14 @@ impl<S: Store> Store for Window<S> {
     }
 
     fn left(&self, cell: u16) -> Result<u16, Refusal> {
-        if cell >= self.shown() {
-            return Err(Refusal::Absent(Place::here(cell)));
-        }
+        present(self.shown(), cell)?;
         self.below.left(self.bounds.first + cell)
     }
 
     fn write(&mut self, cell: u16, from: &[u8]) -> Result<(), Refusal> {
         fit(self.shown(), cell, from.len())?;
-        match self.below.write(self.bounds.first + cell, from) {
-            Ok(()) => Ok(()),
-            Err(refusal) => Err(refusal.deeper()),
-        }
+        self.below
+            .write(self.bounds.first + cell, from)
+            .map_err(Refusal::deeper)
     }
 }

@@ -1,6 +1,5 @@
-use Rattle.std.proofs.Common.{◌≡◌}
-use Rattle.store.proofs.Runs.{halfway}
+use Rattle.std.proofs.Common.{◌≡◌, take}
 use Rattle.store.proofs.reading.read_all.Given as goal
 
 abbrev pub invariant-loop-cell : goal.invariant-loop-cell
-invariant-loop-cell g l = l.into ≡ halfway l.cell (g.S.Store.cells l.store) l.initial.into
+invariant-loop-cell g l = take l.cell l.slot-items ≡ take l.cell (g.S.Store.cells l.store)

@@ -28,6 +28,13 @@ pub type CellImage = Image<Cells>;
 pub type StripImage = Image<Strips>;
 
 impl<L: Layout> Image<L> {
+    // Whether bytes are an image of this layout.
+    pub fn is_image(bytes: &[u8]) -> bool
+        ensures { result ≡ L.is_image bytes.now }
+    {
+        L::count(bytes).is_some()
+    }
+
     // The store in these bytes; it has no cells where they are no image of this layout.
     pub fn new(bytes: Vec<u8>) -> Image<L>
         ensures { result.bytes ≡ bytes }
@@ -59,6 +66,22 @@ impl<L: Layout> Image<L> {
         ensures { result ≡ self.bytes }
     {
         self.bytes
+    }
+}
+
+impl<L: Layout> From<Vec<u8>> for Image<L> {
+    ghost from_gives = { λ bytes image. image.bytes ≡ bytes };
+
+    fn from(bytes: Vec<u8>) -> Self {
+        Image::new(bytes)
+    }
+}
+
+impl<L: Layout> From<Image<L>> for Vec<u8> {
+    ghost from_gives = { λ image bytes. bytes ≡ image.bytes };
+
+    fn from(image: Image<L>) -> Self {
+        image.into_bytes()
     }
 }
 

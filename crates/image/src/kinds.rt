@@ -2,9 +2,7 @@
 ghost use Rattle.std.specs.Prelude.{◌≡◌, Some};
 ghost use Rattle.image.specs.Kinds.{kind_number, kind_in, kind_name};
 
-use crate::cell_layout::Cells;
-use crate::layout::Layout;
-use crate::strip_layout::Strips;
+use crate::images::{CellImage, StripImage};
 use std::fmt;
 
 // The contract of `kind_of` states a kind by `kind_number`, as the module's rules number the kinds.
@@ -29,9 +27,9 @@ impl fmt::Display for Kind {
 pub fn kind_of(bytes: &[u8]) -> Option<Kind>
     ensures { kind_number result ≡ kind_in bytes.now }
 {
-    if Cells::is_image(bytes) {
+    if CellImage::is_image(bytes) {
         Some(Kind::Cells)
-    } else if Strips::is_image(bytes) {
+    } else if StripImage::is_image(bytes) {
         Some(Kind::Strips)
     } else {
         None

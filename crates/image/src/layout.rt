@@ -8,7 +8,7 @@ ghost use Rattle.image.specs.Images.{zeros};
 
 use std::alloc::{AllocError, Global};
 
-// How cells lie in the bytes of an image. The functions do the work of a store on bytes that are known to have the cell.
+// How cells lie in the bytes of an image. The functions do the work of a store on bytes that are known to have the cell, so the crate keeps them to itself.
 pub trait Layout {
     // Whether bytes are an image of this layout.
     ghost is_image: { List ℕ → Bool };
@@ -27,12 +27,6 @@ pub trait Layout {
         ensures answer { result ≡ cond (is_image bytes.now) (Some (count_in bytes.now)) None }
         ensures shown { unwrap_or result 0 ≡ length (cells bytes.now) }
         ensures shape { Shaped (cells bytes.now) };
-
-    fn is_image(bytes: &[u8]) -> bool
-        ensures { result ≡ is_image bytes.now }
-    {
-        Self::count(bytes).is_some()
-    }
 
     // Copies the value of a cell.
     fn read(bytes: &[u8], cell: u16, into: &mut [u8])

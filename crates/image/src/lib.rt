@@ -6,15 +6,12 @@
 #![tactic(auto)]
 
 mod bytes;
-pub mod cell_layout;
+mod cell_layout;
 pub mod examples;
 pub mod images;
 pub mod kinds;
-pub mod layout;
-pub mod strip_layout;
+mod layout;
+mod strip_layout;
 
-pub use cell_layout::Cells;
 pub use images::{CellImage, Image, StripImage};
 pub use kinds::{Kind, kind_of};
-pub use layout::Layout;
-pub use strip_layout::Strips;

@@ -1,6 +1,5 @@
 // Calls on any store, with each answer on a line.
 use crate::calls::{Call, Calls};
-use crate::told::Told;
 use std::io;
 use store::{Cell, Store, read_all};
 use text::Hex;
@@ -33,7 +32,7 @@ fn print_answer<S: Store>(rt: &HostRuntime, store: &mut S, call: Call) -> io::Re
 
 fn print_read<S: Store>(rt: &HostRuntime, store: &S, cell: u16, len: usize) -> io::Result<()> {
     let mut into = vec![in rt.alloc(); 0xa5u8; len]?;
-    let answer = store.read(cell, into.as_mut_slice()).map_err(Told);
+    let answer = store.read(cell, into.as_mut_slice());
     let hex = Hex {
         bytes: into.as_slice(),
     };
@@ -44,7 +43,7 @@ fn print_read<S: Store>(rt: &HostRuntime, store: &S, cell: u16, len: usize) -> i
 }
 
 fn print_left<S: Store>(rt: &HostRuntime, store: &S, cell: u16) -> io::Result<()> {
-    match store.left(cell).map_err(Told) {
+    match store.left(cell) {
         Ok(left) => println!(rt; "left {cell}: ok {left}"),
         Err(refusal) => println!(rt; "left {cell}: {refusal} "),
     }
@@ -58,7 +57,7 @@ fn print_write<S: Store>(
     len: usize,
 ) -> io::Result<()> {
     let from = vec![in rt.alloc(); byte; len]?;
-    match store.write(cell, from.as_slice()).map_err(Told) {
+    match store.write(cell, from.as_slice()) {
         Ok(()) => println!(rt; "write {cell} from {len} of {byte}: ok"),
         Err(refusal) => println!(rt; "write {cell} from {len} of {byte}: {refusal} "),
     }
@@ -71,7 +70,7 @@ fn print_cells<S: Store>(rt: &HostRuntime, store: &S) -> io::Result<()> {
         left: 0,
     };
     let mut cells = vec![in rt.alloc(); none; usize::from(store.count())]?;
-    if let Err(refusal) = read_all(store, cells.as_mut_slice()).map_err(Told) {
+    if let Err(refusal) = read_all(store, cells.as_mut_slice()) {
         return println!(rt; "{refusal} ");
     }
     for (k, cell) in cells.iter().enumerate() {

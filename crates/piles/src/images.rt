@@ -1,14 +1,13 @@
 // The images that are exercised: small ones, faulty ones, and the largest.
 use crate::exercise::exercise;
-use crate::kept::Kept;
 use crate::layers::exercise_piles;
 use crate::through::write_through;
-use crate::told::Told;
 use digest::digest_of;
 use image::{CellImage, StripImage};
 use std::alloc::{AllocError, Global};
 use std::fmt::Display;
 use std::io;
+use store::Store;
 use text::Hex;
 
 // Seven cells with 0 to 6 writes left.
@@ -34,8 +33,10 @@ fn seven_cells(
     Ok(bytes)
 }
 
-fn print_bytes(rt: &HostRuntime, bytes: &[u8]) -> io::Result<()> {
-    let digest = digest_of(bytes);
+// The digest of an image's bytes.
+fn print_digest<I: Into<Vec<u8>>>(rt: &HostRuntime, image: I) -> io::Result<()> {
+    let bytes: Vec<u8> = image.into();
+    let digest = digest_of(bytes.as_slice());
     let hex = Hex { bytes: &digest };
     println!(rt; "image {hex}")
 }
@@ -49,10 +50,13 @@ pub fn print_small(rt: &HostRuntime) -> io::Result<()> {
 }
 
 // An image by itself, and the same anew under piles.
-fn print_twice<I: Kept>(rt: &HostRuntime, bytes: Vec<u8>) -> io::Result<()> {
-    let _ = exercise(rt, I::of(bytes.clone()?), 8, 30)?;
-    let image = exercise_piles(rt, I::of(bytes))?;
-    print_bytes(rt, image.bytes().as_slice())
+fn print_twice<I: Store + Drop + From<Vec<u8>> + Into<Vec<u8>>>(
+    rt: &HostRuntime,
+    bytes: Vec<u8>,
+) -> io::Result<()> {
+    let _ = exercise(rt, I::from(bytes.clone()?), 8, 30)?;
+    let image = exercise_piles(rt, I::from(bytes))?;
+    print_digest(rt, image)
 }
 
 // One byte short, one byte long, without the 20, with a used count above the width, and with strips of no places.
@@ -70,23 +74,27 @@ pub fn print_faulty(rt: &HostRuntime) -> io::Result<()> {
 }
 
 // An image without its last byte, and with one more.
-fn print_near<I: Kept>(rt: &HostRuntime, title: &str, bytes: Vec<u8>) -> io::Result<()> {
+fn print_near<I: Store + Drop + From<Vec<u8>> + Into<Vec<u8>>>(
+    rt: &HostRuntime,
+    title: &str,
+    bytes: Vec<u8>,
+) -> io::Result<()> {
     let mut short = bytes.clone()?;
     let _ = short.pop();
-    print_titled(rt, format_args!("{title}, a byte short"), I::of(short))?;
+    print_titled(rt, format_args!("{title}, a byte short"), I::from(short))?;
     let mut long = bytes;
     long.push(0)?;
-    print_titled(rt, format_args!("{title}, a byte long"), I::of(long))
+    print_titled(rt, format_args!("{title}, a byte long"), I::from(long))
 }
 
-fn print_titled<T: Display + Drop, I: Kept>(
+fn print_titled<T: Display + Drop, I: Store + Drop + Into<Vec<u8>>>(
     rt: &HostRuntime,
     title: T,
     image: I,
 ) -> io::Result<()> {
     println!(rt; "{title}")?;
     let image = exercise(rt, image, 2, 6)?;
-    print_bytes(rt, image.bytes().as_slice())
+    print_digest(rt, image)
 }
 
 // Five writes to one cell, each through a new pile; the cell has three left.
@@ -95,13 +103,13 @@ pub fn print_through(rt: &HostRuntime) -> io::Result<()> {
     let mut image = CellImage::new(cell_bytes(rt.alloc())?);
     for turn in 0..5u8 {
         let (answer, after) = write_through(image, 1, 1, 4, 2, &[turn; 20]);
-        match answer.map_err(Told) {
+        match answer {
             Ok(()) => print!(rt; "ok ")?,
             Err(refusal) => print!(rt; "{refusal} ")?,
         }
         let bytes = after.into_bytes();
-        print_bytes(rt, bytes.as_slice())?;
-        image = CellImage::new(bytes);
+        image = CellImage::new(bytes.clone()?);
+        print_digest(rt, bytes)?;
     }
     Ok(())
 }
@@ -115,8 +123,8 @@ pub fn print_large(rt: &HostRuntime) -> io::Result<()> {
 }
 
 // An image by itself, and then under piles.
-fn print_whole<I: Kept>(rt: &HostRuntime, image: I) -> io::Result<()> {
+fn print_whole<I: Store + Drop + Into<Vec<u8>>>(rt: &HostRuntime, image: I) -> io::Result<()> {
     let image = exercise(rt, image, 65535, 60)?;
     let image = exercise_piles(rt, image)?;
-    print_bytes(rt, image.bytes().as_slice())
+    print_digest(rt, image)
 }

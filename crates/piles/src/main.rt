@@ -4,10 +4,8 @@
 mod calls;
 mod exercise;
 mod images;
-mod kept;
 mod layers;
 mod through;
-mod told;
 
 use std::io;
 

@@ -30,18 +30,18 @@ impl Size {
 // Prints the cells of an image file.
 pub fn show_image<'a>(rt: &HostRuntime, name: &'a str) -> Result<(), Failure<'a>> {
     let bytes = fs::read(rt, name).map_err(|error| Failure::File { name, error })?;
-    match kind_of(bytes.as_slice()) {
-        Some(Kind::Cells) => show_cells(rt, "cell", &CellImage::new(bytes)),
-        Some(Kind::Strips) => show_cells(rt, "strip", &StripImage::new(bytes)),
-        None => {
-            let len = bytes.len();
-            Err(Failure::NoImage { name, len })
-        }
+    let Some(kind) = kind_of(bytes.as_slice()) else {
+        let len = bytes.len();
+        return Err(Failure::NoImage { name, len });
+    };
+    match kind {
+        Kind::Cells => show_cells(rt, kind, &CellImage::new(bytes)),
+        Kind::Strips => show_cells(rt, kind, &StripImage::new(bytes)),
     }
 }
 
 // Prints the cells of any store.
-fn show_cells<S: Store>(rt: &HostRuntime, kind: &str, store: &S) -> Result<(), Failure<'static>> {
+fn show_cells<S: Store>(rt: &HostRuntime, kind: Kind, store: &S) -> Result<(), Failure<'static>> {
     let count = store.count();
     println!(rt; "{kind} image, cells {count}")?;
     let none = Cell {

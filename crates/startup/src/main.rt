@@ -80,15 +80,16 @@ fn show<'a>(rt: &HostRuntime, words: &'a [String]) -> Result<(), Failure<'a>> {
 }
 
 fn new<'a>(rt: &HostRuntime, words: &'a [String]) -> Result<(), Failure<'a>> {
-    match words {
-        [out, cells, writes] => {
-            let size = Size::parse(cells.as_str(), writes.as_str())?;
-            new_image(rt, out.as_str(), Kind::Cells, size)
-        }
-        [out, cells, writes, flag] if flag.as_str() == "--strip" => {
-            let size = Size::parse(cells.as_str(), writes.as_str())?;
-            new_image(rt, out.as_str(), Kind::Strips, size)
-        }
-        _ => Err(Failure::Usage("it is startup new OUT CELLS WRITES [--strip]")),
-    }
+    let (out, cells, writes, kind) = match words {
+        [out, cells, writes] => (out, cells, writes, Kind::Cells),
+        [out, cells, writes, flag] if flag.as_str() == "--strip" => (
+            out,
+            cells,
+            writes,
+            Kind::Strips,
+        ),
+        _ => return Err(Failure::Usage("it is startup new OUT CELLS WRITES [--strip]")),
+    };
+    let size = Size::parse(cells.as_str(), writes.as_str())?;
+    new_image(rt, out.as_str(), kind, size)
 }

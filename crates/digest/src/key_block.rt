@@ -5,7 +5,7 @@ ghost use Rattle.digest.specs.Hmac.{zero_filled, masked, key_block};
 use crate::message::digest_of;
 use std::marker::Model;
 
-// The place for one key, lent to each code that is worked out.
+// The place for one key, lent to each code that is worked out. It is not `Debug`, since a key may be in it.
 #[derive(Drop)]
 pub struct KeyBlock {
     bytes: [u8; 64],

@@ -13,6 +13,7 @@ use std::marker::PhantomData;
 use store::refusal::{fit, present};
 use store::{Place, Refusal, Store};
 
+// It is not `Debug`, since the owner's secret is in its bytes.
 #[derive(Drop)]
 pub struct Image<L: Layout> {
     bytes: Vec<u8>,

@@ -8,7 +8,7 @@ pub enum Call {
     Write { cell: u16, byte: u8, len: usize },
 }
 
-#[derive(Drop)]
+#[derive(Debug, Drop)]
 pub struct Calls {
     state: u64,
     // the highest cell that is drawn

@@ -37,7 +37,7 @@ pub fn worn_is_named()
     ensures { WornIsNamed }
 {}
 
-// Contracts name the fields, as those of a window do.
+// Contracts name the fields, as those of a window do, and it is not `Debug` either.
 #[derive(Drop)]
 pub struct WearGuard<S> {
     below: S,

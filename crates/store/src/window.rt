@@ -13,7 +13,7 @@ pub struct Bounds {
     pub most: u16,
 }
 
-// Contracts name the fields and not a list of cells, which would not tell that `into_below` gives back the very store below.
+// Contracts name the fields and not a list of cells, which would not tell that `into_below` gives back the very store below. It is not `Debug`, since the owner's secret may be in that store.
 #[derive(Drop)]
 pub struct Window<S> {
     below: S,

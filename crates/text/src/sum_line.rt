@@ -26,7 +26,7 @@ impl fmt::Display for SumLine<'_> {
 }
 
 // A name in which a backslash, a line feed and a carriage return are escaped.
-#[derive(Clone, Copy)]
+#[derive(Clone, Copy, Debug)]
 struct Escaped<'a> {
     name: &'a str,
 }

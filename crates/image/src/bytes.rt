@@ -1,4 +1,4 @@
-// The bytes of an image: numbers of two bytes, the high byte first, and values of twenty.
+// The bytes of an image: numbers of two bytes, the high byte first, and values of twenty. The functions take bytes and a place, as the library's do for slices.
 ghost use Rattle.std.specs.Prelude.{◌≡◌, ◌+◌, ◌*◌, ◌^◌, ◌<◌, ◌≤◌, length, IfOk};
 ghost use Rattle.image.specs.Bytes.{number_bytes, number_at, count_in, number, number_place, value, value_place, overlay, altered, blank};
 

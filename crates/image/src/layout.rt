@@ -8,7 +8,7 @@ ghost use Rattle.image.specs.Images.{zeros};
 
 use std::alloc::{AllocError, Global};
 
-// How cells lie in the bytes of an image. The functions do the work of a store on bytes that are known to have the cell, so the crate keeps them to itself.
+// How cells lie in the bytes of an image. The functions do the work of a store on bytes that are known to have the cell, so the crate keeps them to itself. Each asks for this by a clause: a struct of bytes and cell that knows it would be needed twice, for bytes that are read and for bytes that are written.
 pub trait Layout {
     // Whether bytes are an image of this layout.
     ghost is_image: { List ℕ → Bool };

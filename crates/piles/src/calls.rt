@@ -37,7 +37,7 @@ impl Calls {
         self.below(256) as u8
     }
 
-    // Twenty, or seldom nineteen or twenty-one.
+    // Twenty, or seldom nineteen or twenty-one. What is drawn is a number, so it is matched as one, here and in `next`.
     fn len(&mut self) -> usize {
         match self.below(12) {
             0 => 19,

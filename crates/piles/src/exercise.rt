@@ -79,6 +79,7 @@ fn print_cells<S: Store>(rt: &HostRuntime, store: &S) -> io::Result<()> {
     Ok(())
 }
 
+// In the words of the model in Python, which are no display of a cell.
 fn print_cell(rt: &HostRuntime, k: usize, cell: &Cell) -> io::Result<()> {
     let hex = Hex { bytes: &cell.value };
     let left = cell.left;

@@ -58,6 +58,7 @@ fn show_cells<S: Store>(rt: &HostRuntime, kind: Kind, store: &S) -> Result<(), F
     Ok(())
 }
 
+// The words are the program's own, so a cell has no display that says them.
 fn show_cell(rt: &HostRuntime, k: usize, cell: &Cell) -> io::Result<()> {
     let hex = Hex { bytes: &cell.value };
     let left = cell.left;

@@ -56,7 +56,7 @@ fn fail(rt: &HostRuntime, failure: Failure<'_>) -> ExitCode {
     ExitCode::FAILURE
 }
 
-// Does what the arguments ask.
+// Does what the arguments ask. They come as text and are used once, so they are matched as text.
 fn run<'a>(rt: &HostRuntime, args: &'a [String]) -> Result<ExitCode, Failure<'a>> {
     let Some((command, words)) = args.split_first() else {
         return measure_listed(rt);

@@ -57,7 +57,7 @@ impl<S: Store> WearGuard<S> {
         }
     }
 
-    // The store below again.
+    // The store below again. A window does it too, of another struct, and a trait for the two would be longer.
     pub fn into_below(self) -> S
         ensures { result ≡ self.below }
     {

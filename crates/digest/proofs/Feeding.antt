@@ -11,7 +11,7 @@ use Rattle.digest.proofs.Buffers.{take-placed, put_mid-end}
 
 module _ (h block : List ℕ) (t : ℕ) (v : Running) (whole : length block ≡ 64) (seen : running h (take (t % 64) block) t ≡ v) where
   -- the count says how far the block is filled
-  pub filled_is : (fill : ℕ) → fill ≡ length v.pending → fill ≡ t % 64
+  filled_is : (fill : ℕ) → fill ≡ length v.pending → fill ≡ t % 64
   filled_is fill e =
       let n : length (take (t % 64) block) ≡ t % 64 = simp length-take (omega arith) in
       e ∙ (sym (ap (λ (x : Running). length x.pending) seen) ∙ n)

@@ -1,11 +1,12 @@
 // The compression function of SHA-1: five words and a block of 64 bytes give five words.
 ghost use Rattle.std.specs.Prelude.{◌≡◌, ℕ, ◌+◌, ◌<◌, ◌≤◌, List, take, fold};
 ghost use Rattle.digest.specs.Words.{words_of};
-ghost use Rattle.digest.specs.Sha1.{next_word, grown, compress};
+ghost use Rattle.digest.specs.Sha1.{next_word, grown, summed, compress};
 
 use crate::round::{choose, majority, parity, stepped};
+use std::array;
 
-// The sixteen words of a block, with room for the rest of the schedule.
+// The sixteen words of a block, with room in fixed memory for the rest of the schedule. They are written by their places, since a proof knows nothing of what is written through `zip`.
 fn loaded(block: &[u8; 64]) -> [u32; 80]
     ensures { take 16 result ≡ words_of 16 block.now }
 {
@@ -48,13 +49,14 @@ pub(crate) fn compressed(h: [u32; 5], block: &[u8; 64]) -> [u32; 5]
     let u = stepped::<40, 0x8f1bbcdc, _>(majority, t, &w);
     grow::<44, 64>(&mut w);
     let v = stepped::<60, 0xca62c1d6, _>(parity, u, &w);
-    [
-        h[0].wrapping_add(v[0]),
-        h[1].wrapping_add(v[1]),
-        h[2].wrapping_add(v[2]),
-        h[3].wrapping_add(v[3]),
-        h[4].wrapping_add(v[4]),
-    ]
+    summed(h, v)
+}
+
+// Five words, each added to its like.
+fn summed(h: [u32; 5], s: [u32; 5]) -> [u32; 5]
+    ensures { result ≡ summed h s }
+{
+    array::from_fn(|i| h[i].wrapping_add(s[i]))
 }
 
 // The five words after some blocks.

@@ -63,7 +63,7 @@ impl KeyBlock {
     }
 }
 
-// Holds the block while a code is worked out; its end writes zeros over the block.
+// Holds the block while a code is worked out; its end writes zeros over the block. It is no more `Debug` than the block.
 pub(crate) struct KeyGuard<'a> {
     pub(crate) block: &'a mut KeyBlock,
 }

@@ -10,6 +10,7 @@ use crate::padding::{bit_count, padding};
 use std::marker::Model;
 
 // The block that is being filled, the words after the blocks before it, and the number of bytes in all. The number says how far the block is filled, and what lies behind that means nothing.
+// It is not `Debug`, since the bytes of a key may be in it.
 pub struct Sha1 {
     block: [u8; 64],
     words: [u32; 5],

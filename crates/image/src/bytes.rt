@@ -1,4 +1,5 @@
-// The bytes of an image: numbers of two bytes, the high byte first, and values of twenty. The functions take bytes and a place, as the library's do for slices.
+// The bytes of an image: numbers of two bytes, the high byte first, and values of twenty.
+// The functions take bytes and a place: a struct of both would be needed twice, for bytes that are read and for bytes that are written.
 ghost use Rattle.std.specs.Prelude.{◌≡◌, ◌+◌, ◌*◌, ◌^◌, ◌<◌, ◌≤◌, length, IfOk};
 ghost use Rattle.image.specs.Bytes.{number_bytes, number_at, count_in, number, number_place, value, value_place, overlay, altered, blank};
 
@@ -20,14 +21,16 @@ pub(crate) fn number_of(bytes: &[u8], cell: u16) -> u16
     number_at(bytes, 4 + 2 * usize::from(cell))
 }
 
-// Copies one of the values.
-pub(crate) fn copy_value(bytes: &[u8], slot: usize, into: &mut [u8])
-    requires { (value_place (count_in bytes.now) slot + 20 ≤ length bytes.now) × (length into.old ≡ 20) }
-    ensures { into.new ≡ value bytes.now slot }
+// One of the values.
+pub(crate) fn value_of(bytes: &[u8], slot: usize) -> [u8; 20]
+    requires { value_place (count_in bytes.now) slot + 20 ≤ length bytes.now }
+    ensures { result ≡ value bytes.now slot }
 {
     let count = usize::from(number_at(bytes, 0));
     let at = 4 + 2 * count + 20 * slot;
-    into.copy_from_slice(&bytes[at..at + 20]);
+    let mut value = [0; 20];
+    value.copy_from_slice(&bytes[at..at + 20]);
+    value
 }
 
 // Lays `from` over the bytes from `at` on.
@@ -46,12 +49,12 @@ fn number_bytes(number: u16) -> [u8; 2]
 }
 
 // Alters the number of a cell and one of the values.
-pub(crate) fn alter(bytes: &mut [u8], cell: u16, number: u16, slot: usize, from: &[u8])
-    requires { (cell < count_in bytes.old) × ((value_place (count_in bytes.old) slot + 20 ≤ length bytes.old) × (length from.now ≡ 20)) }
-    ensures { bytes.new ≡ altered bytes.old cell number slot from.now }
+pub(crate) fn alter(bytes: &mut [u8], cell: u16, number: u16, slot: usize, value: &[u8; 20])
+    requires { (cell < count_in bytes.old) × (value_place (count_in bytes.old) slot + 20 ≤ length bytes.old) }
+    ensures { bytes.new ≡ altered bytes.old cell number slot value.now }
 {
     let count = usize::from(number_at(bytes, 0));
-    put(bytes, 4 + 2 * count + 20 * slot, from);
+    put(bytes, 4 + 2 * count + 20 * slot, value);
     put(bytes, 4 + 2 * usize::from(cell), &number_bytes(number));
 }
 

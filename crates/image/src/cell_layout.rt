@@ -1,7 +1,7 @@
 // The layout of a cell image: each cell has its writes left and one value.
 ghost use Rattle.image.specs.Images.{is_cell_image, cell_image, cell_write, new_cells};
 
-use crate::bytes::{alter, blank_bytes, copy_value, number_at, number_of};
+use crate::bytes::{alter, blank_bytes, number_at, number_of, value_of};
 use crate::layout::Layout;
 use std::alloc::{AllocError, Global};
 
@@ -27,17 +27,17 @@ impl Layout for Cells {
         whole.then_some(count)
     }
 
-    fn read(bytes: &[u8], cell: u16, into: &mut [u8]) {
-        copy_value(bytes, usize::from(cell), into);
+    fn value(bytes: &[u8], cell: u16) -> [u8; 20] {
+        value_of(bytes, usize::from(cell))
     }
 
     fn left(bytes: &[u8], cell: u16) -> u16 {
         number_of(bytes, cell)
     }
 
-    fn write(bytes: &mut [u8], cell: u16, from: &[u8]) {
+    fn write(bytes: &mut [u8], cell: u16, value: &[u8; 20]) {
         let left = number_of(bytes, cell);
-        alter(bytes, cell, left - 1, usize::from(cell), from);
+        alter(bytes, cell, left - 1, usize::from(cell), value);
     }
 
     fn blank(heap: Global, count: u16, writes: u16) -> Result<Vec<u8>, AllocError> {

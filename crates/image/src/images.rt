@@ -13,7 +13,7 @@ use std::marker::PhantomData;
 use store::refusal::{fit, present};
 use store::{Place, Refusal, Store};
 
-// It is not `Debug`, since the owner's secret is in its bytes.
+// Contracts name the bytes and no list of them, since `into_bytes` gives back the very vector that was taken. It is not `Debug`, since the owner's secret is in them.
 #[derive(Drop)]
 pub struct Image<L: Layout> {
     bytes: Vec<u8>,
@@ -99,7 +99,7 @@ impl<L: Layout> Store for Image<L> {
 
     fn read(&self, cell: u16, into: &mut [u8]) -> Result<(), Refusal> {
         fit(self.count, cell, into.len())?;
-        L::read(self.bytes.as_slice(), cell, into);
+        into.copy_from_slice(&L::value(self.bytes.as_slice(), cell));
         Ok(())
     }
 
@@ -113,7 +113,7 @@ impl<L: Layout> Store for Image<L> {
         if L::left(self.bytes.as_slice(), cell) == 0 {
             return Err(Refusal::Worn(Place::here(cell)));
         }
-        L::write(self.bytes.as_mut_slice(), cell, from);
+        L::write(self.bytes.as_mut_slice(), cell, from.as_array().unwrap());
         Ok(())
     }
 }

@@ -8,7 +8,8 @@ ghost use Rattle.image.specs.Images.{zeros};
 
 use std::alloc::{AllocError, Global};
 
-// How cells lie in the bytes of an image. The functions do the work of a store on bytes that are known to have the cell, so the crate keeps them to itself. Each asks for this by a clause: a struct of bytes and cell that knows it would be needed twice, for bytes that are read and for bytes that are written.
+// How cells lie in the bytes of an image. The functions do the work of a store on bytes that are known to have the cell, so the crate keeps them to itself.
+// Each asks for the cell by a clause: a struct that knows of it would be needed twice, for bytes that are read and for bytes that are written.
 pub trait Layout {
     // Whether bytes are an image of this layout.
     ghost is_image: { List ℕ → Bool };
@@ -28,11 +29,10 @@ pub trait Layout {
         ensures shown { unwrap_or result 0 ≡ length (cells bytes.now) }
         ensures shape { Shaped (cells bytes.now) };
 
-    // Copies the value of a cell.
-    fn read(bytes: &[u8], cell: u16, into: &mut [u8])
-        requires there { cell < length (cells bytes.now) }
-        requires twenty { length into.old ≡ 20 }
-        ensures { into.new ≡ (at (cells bytes.now) cell).value };
+    // The value of a cell.
+    fn value(bytes: &[u8], cell: u16) -> [u8; 20]
+        requires { cell < length (cells bytes.now) }
+        ensures { result ≡ (at (cells bytes.now) cell).value };
 
     // How many writes a cell has left.
     fn left(bytes: &[u8], cell: u16) -> u16
@@ -40,12 +40,11 @@ pub trait Layout {
         ensures { result ≡ (at (cells bytes.now) cell).left };
 
     // Writes a value to a cell that has writes left.
-    fn write(bytes: &mut [u8], cell: u16, from: &[u8])
+    fn write(bytes: &mut [u8], cell: u16, value: &[u8; 20])
         requires there { cell < length (cells bytes.old) }
         requires unworn { 0 < (at (cells bytes.old) cell).left }
-        requires twenty { length from.now ≡ 20 }
-        ensures bytes { bytes.new ≡ written bytes.old cell from.now }
-        ensures after { cells bytes.new ≡ write_cells (cells bytes.old) cell from.now }
+        ensures bytes { bytes.new ≡ written bytes.old cell value.now }
+        ensures after { cells bytes.new ≡ write_cells (cells bytes.old) cell value.now }
         ensures shape { Shaped (cells bytes.new) };
 
     // The bytes of a store of zeros.

@@ -2,7 +2,7 @@
 ghost use Rattle.std.specs.Prelude.{◌≡◌, ◌+◌, ◌*◌, ◌≤◌, length};
 ghost use Rattle.image.specs.Images.{used_within, is_strip_image, strip_place, strip_image, strip_write, new_strips};
 
-use crate::bytes::{alter, blank_bytes, copy_value, number_at, number_of};
+use crate::bytes::{alter, blank_bytes, number_at, number_of, value_of};
 use crate::layout::Layout;
 use std::alloc::{AllocError, Global};
 
@@ -48,12 +48,12 @@ impl Layout for Strips {
     }
 
     // The newest of its strip, or zeros where the strip is empty.
-    fn read(bytes: &[u8], cell: u16, into: &mut [u8]) {
+    fn value(bytes: &[u8], cell: u16) -> [u8; 20] {
         let used = number_of(bytes, cell);
         if used == 0 {
-            into.fill(0);
+            [0; 20]
         } else {
-            copy_value(bytes, slot_of(bytes, cell, used - 1), into);
+            value_of(bytes, slot_of(bytes, cell, used - 1))
         }
     }
 
@@ -63,10 +63,10 @@ impl Layout for Strips {
     }
 
     // Fills the next place of its strip.
-    fn write(bytes: &mut [u8], cell: u16, from: &[u8]) {
+    fn write(bytes: &mut [u8], cell: u16, value: &[u8; 20]) {
         let used = number_of(bytes, cell);
         let slot = slot_of(bytes, cell, used);
-        alter(bytes, cell, used + 1, slot, from);
+        alter(bytes, cell, used + 1, slot, value);
     }
 
     fn blank(heap: Global, count: u16, writes: u16) -> Result<Vec<u8>, AllocError> {

@@ -38,7 +38,7 @@ impl Calls {
     }
 
     // Twenty, or seldom nineteen or twenty-one. What is drawn is a number, so it is matched as one, here and in `next`.
-    fn len(&mut self) -> usize {
+    fn length(&mut self) -> usize {
         match self.below(12) {
             0 => 19,
             1 => 21,
@@ -56,13 +56,13 @@ impl Iterator for Calls {
         Some(match kind {
             0 => Call::Read {
                 cell,
-                len: self.len(),
+                len: self.length(),
             },
             1 => Call::Left { cell },
             _ => Call::Write {
                 cell,
                 byte: self.byte(),
-                len: self.len(),
+                len: self.length(),
             },
         })
     }

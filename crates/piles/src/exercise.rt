@@ -65,11 +65,7 @@ fn print_write<S: Store>(
 
 // All cells, through the call that reads any store.
 fn print_cells<S: Store>(rt: &HostRuntime, store: &S) -> io::Result<()> {
-    let none = Cell {
-        value: [0; 20],
-        left: 0,
-    };
-    let mut cells = vec![in rt.alloc(); none; usize::from(store.count())]?;
+    let mut cells = vec![in rt.alloc(); Cell::default(); usize::from(store.count())]?;
     if let Err(refusal) = read_all(store, cells.as_mut_slice()) {
         return println!(rt; "{refusal} ");
     }

@@ -97,7 +97,7 @@ fn print_titled<T: Display + Drop, I: Store + Drop + Into<Vec<u8>>>(
     print_digest(rt, image)
 }
 
-// Five writes to one cell, each through a new pile; the cell has three left.
+// Five writes to one cell, each through a new pile; the cell has three left. The number of a turn is the byte that it writes.
 pub fn print_through(rt: &HostRuntime) -> io::Result<()> {
     println!(rt; "through window 1 4 and guard 1")?;
     let mut image = CellImage::new(cell_bytes(rt.alloc())?);

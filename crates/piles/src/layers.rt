@@ -16,6 +16,7 @@ pub fn exercise_piles<S: Store + Drop>(rt: &HostRuntime, mut store: S) -> io::Re
     guard_below(rt, store)
 }
 
+// The guards below have the same lines; a closure that makes the layer and one that takes it apart would be longer.
 fn one_window<S: Store + Drop>(rt: &HostRuntime, store: S, first: u16, most: u16) -> io::Result<S> {
     println!(rt; "window {first} {most}")?;
     let pile = Window::new(store, first, most);

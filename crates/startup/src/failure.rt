@@ -1,4 +1,4 @@
-// Why the program ends with status 1, in the words that it says on standard error.
+// Why something that was asked could not be done, in the words that the program says on standard error.
 use std::alloc::{AllocError, AllocFailed};
 use std::{fmt, io};
 
@@ -17,6 +17,7 @@ pub enum Failure<'a> {
     NoCells,
     NoCommand(&'a str),
     NoNumber(&'a str),
+    // both words, each told on a line of its own
     NoNumbers(&'a str, &'a str),
     // what a command takes
     Usage(&'static str),

@@ -44,14 +44,8 @@ pub fn show_image<'a>(rt: &HostRuntime, name: &'a str) -> Result<(), Failure<'a>
 fn show_cells<S: Store>(rt: &HostRuntime, kind: Kind, store: &S) -> Result<(), Failure<'static>> {
     let count = store.count();
     println!(rt; "{kind} image, cells {count}")?;
-    let none = Cell {
-        value: [0; 20],
-        left: 0,
-    };
-    let mut cells = vec![in rt.alloc(); none; usize::from(count)]?;
-    if read_all(store, cells.as_mut_slice()).is_err() {
-        return Err(Failure::NoCells);
-    }
+    let mut cells = vec![in rt.alloc(); Cell::default(); usize::from(count)]?;
+    read_all(store, cells.as_mut_slice()).map_err(|_| Failure::NoCells)?;
     for (k, cell) in cells.iter().enumerate() {
         show_cell(rt, k, cell)?;
     }

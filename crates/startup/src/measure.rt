@@ -13,10 +13,7 @@ const PIECE: usize = 16384;
 
 // Measures the files that the list of parts names.
 pub fn measure_listed(rt: &HostRuntime) -> Result<ExitCode, Failure<'static>> {
-    let text = match fs::read_to_string(rt, LIST) {
-        Ok(text) => text,
-        Err(error) => return Err(Failure::NoList(error)),
-    };
+    let text = fs::read_to_string(rt, LIST).map_err(Failure::NoList)?;
     let names = text
         .lines()
         .filter(|line| !line.is_empty())

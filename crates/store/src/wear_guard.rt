@@ -19,7 +19,7 @@ impl Allowances {
         requires { cell < 32 }
         ensures { result ≡ slice_index self.now.rest cell }
     {
-        self.rest[cell as usize]
+        self.rest[usize::from(cell)]
     }
 
     // Takes one from a cell's allowance.
@@ -27,7 +27,8 @@ impl Allowances {
         requires { cell < 32 }
         ensures { self.new.rest ≡ slice_set self.old.rest cell (slice_index self.old.rest cell - 1) }
     {
-        self.rest[cell as usize] = self.rest[cell as usize].saturating_sub(1);
+        let rest = &mut self.rest[usize::from(cell)];
+        *rest = rest.saturating_sub(1);
     }
 }
 
@@ -57,7 +58,7 @@ impl<S: Store> WearGuard<S> {
         }
     }
 
-    // The store below again. A window does it too, of another struct, and a trait for the two would be longer.
+    // The store below again. A window has its own two lines for this, since a trait for both would be two more declarations.
     pub fn into_below(self) -> S
         ensures { result ≡ self.below }
     {

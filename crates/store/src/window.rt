@@ -22,6 +22,7 @@ pub struct Window<S> {
 
 #[tactic(auto, using(crate::proofs::Windows::windows))]
 impl<S: Store> Window<S> {
+    // The two numbers come one by one, since `Bounds { first, most }` at every call would say no more.
     pub fn new(below: S, first: u16, most: u16) -> Window<S>
         ensures { result ≡ record { below = below; bounds = record { first = first; most = most } } }
     {
@@ -43,7 +44,7 @@ impl<S: Store> Window<S> {
             .min(self.bounds.most)
     }
 
-    // The store below again.
+    // The store below again. A guard has its own two lines for this, since a trait for both would be two more declarations.
     pub fn into_below(self) -> S
         ensures { result ≡ self.below }
     {

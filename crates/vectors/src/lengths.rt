@@ -38,7 +38,7 @@ fn pattern(heap: Global, n: usize) -> Result<Vec<u8>, AllocError> {
     (0..n).map(|i| (i % 251) as u8).collect(heap)
 }
 
-// The digest of a message that is fed in pieces of 0, 1, 2 bytes and so on.
+// The digest of a message that is fed in pieces of 0, 1, 2 bytes and so on: the loop is over the sizes.
 fn digest_in_pieces(message: &[u8]) -> [u8; 20] {
     let mut digest = Sha1::open();
     let mut rest = message;

@@ -13,7 +13,8 @@ returns c =
     let two : take 40 c.grow-2.new.w ≡ grown 24 (words_of 16 c.args.block.now) = c.grow-2.ensures ws one in
     let three : take 60 c.grow-3.new.w ≡ grown 44 (words_of 16 c.args.block.now) = c.grow-3.ensures ws two in
     let four : take 80 c.grow-4.new.w ≡ grown 64 (words_of 16 c.args.block.now) = c.grow-4.ensures ws three in
-    rounds-grown c.args.h c.args.block.now c.grow.new.w c.grow-2.new.w c.grow-3.new.w c.grow-4.new.w
+    c.summed.ensures
+    ∙ rounds-grown c.args.h c.args.block.now c.grow.new.w c.grow-2.new.w c.grow-3.new.w c.grow-4.new.w
     c.stepped-s.result c.stepped-t.result c.stepped-u.result c.stepped-v.result
     one two three four (c.stepped-s.ensures choose (λ x y z r e. e)) (c.stepped-t.ensures parity (λ x y z r e. e))
     (c.stepped-u.ensures majority (λ x y z r e. e)) (c.stepped-v.ensures parity (λ x y z r e. e))

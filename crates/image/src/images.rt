@@ -48,7 +48,7 @@ impl<L: Layout> Image<L> {
         }
     }
 
-    // A store of zeros.
+    // A store of zeros. The two numbers come one by one, as those of a window do.
     pub fn blank(heap: Global, cells: u16, writes: u16) -> Result<Image<L>, AllocError>
         ensures bytes { IfOk result (λ s. s.bytes.items ≡ L.blank cells writes) }
         ensures image { IfOk result (λ s. L.is_image s.bytes.items ≡ true) }

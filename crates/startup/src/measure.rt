@@ -13,7 +13,7 @@ const PIECE: usize = 16384;
 
 // Measures the files that the list of parts names.
 pub fn measure_listed(rt: &HostRuntime) -> Result<ExitCode, Failure<'static>> {
-    let text = fs::read_to_string(rt, LIST).map_err(Failure::NoList)?;
+    let text = fs::read_to_string(rt, LIST).map_err(|error| Failure::NoList(error))?;
     let names = text
         .lines()
         .filter(|line| !line.is_empty())

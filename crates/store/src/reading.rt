@@ -18,6 +18,7 @@ pub fn cell_of<S: Store>(store: &S, cell: u16) -> Result<Cell, Refusal>
 }
 
 // All cells of a store, at the start of `into`, and how many they are. Where they do not fit, the first that does not is named. The room is lent, since a device that has stores owns no heap.
+// A proof knows nothing of what is written through `zip`, so the place in the room is the number of the cell.
 pub fn read_all<S: Store>(store: &S, into: &mut [Cell]) -> Result<u16, Refusal>
     ensures answer { said result ≡ all_answer (S.Store.cells store.now) (length into.old) }
     ensures cells { into.new ≡ all_cells (S.Store.cells store.now) into.old }

@@ -79,9 +79,9 @@ padding_same f g n m p q =
     ∙ ap (λ (x : ℕ). (0x80 ∷ replicate ((119 - g) % 64) 0) ++ be64 x) q
 
 -- the padding that a digest under way ends with is that of its message
-padding-held : (m : List ℕ) → padding (length (absorb fresh m).pending) (absorb fresh m).total ≡ padding (length m % 64) (length m)
+padding-absorb : (m : List ℕ) → padding (length (absorb fresh m).pending) (absorb fresh m).total ≡ padding (length m % 64) (length m)
 unfolding absorb fresh
-padding-held m =
+padding-absorb m =
     let a = length-drop (64 * (length m / 64)) m in
     padding_same _ _ _ _ (omega arith) (omega arith)
 
@@ -92,7 +92,7 @@ words_whole bs = refl
 pub finish-absorb : (m : List ℕ) → finish (absorb fresh m) ≡ sha1 m
 unfolding finish sha1
 finish-absorb m =
-    ap (λ (x : List ℕ). bytes_of 5 (absorb (absorb fresh m) x).words) (padding-held m)
+    ap (λ (x : List ℕ). bytes_of 5 (absorb (absorb fresh m) x).words) (padding-absorb m)
     ∙ (ap (λ (x : Running). bytes_of 5 x.words) (absorb-append fresh m (padding (length m % 64) (length m)))
     ∙ words_whole (m ++ padding (length m % 64) (length m)))
 

@@ -4,8 +4,8 @@ use borrow.Rule.Slice.PartMut.{put_mid}
 use Rattle.std.proofs.lemmas.List.{append-nil, drop-drop, drop_all, length-take, length-append, take_at, take-replicate}
 
 -- the front of a block that a piece was laid into, as far as the piece goes
-pub take-placed : (block piece put : List ℕ) (at n : ℕ) → at ≤ length block → put ≡ piece → take (at + length piece) (put_mid at n block put) ≡ take at block ++ piece
-take-placed block piece put at n l e =
+pub take-put_mid : (block piece put : List ℕ) (at n : ℕ) → at ≤ length block → put ≡ piece → take (at + length piece) (put_mid at n block put) ≡ take at block ++ piece
+take-put_mid block piece put at n l e =
     let front = take at block ++ piece in
     let rest = drop n (drop at block) in
     let k : length (take at block ++ piece) ≡ at + length piece = simp (length-append, length-take) (omega arith) in

@@ -7,7 +7,7 @@ use Rattle.digest.specs.Sha1.{compress, blocks}
 use Rattle.digest.specs.Running.{Running, running, absorb}
 use Rattle.digest.proofs.Absorbed.{absorb-append, absorb_part, absorb_block, absorb-blocks}
 use Rattle.digest.proofs.Blocks.{blocks-append, fold-first_chunks}
-use Rattle.digest.proofs.Buffers.{take-placed, put_mid-end}
+use Rattle.digest.proofs.Buffers.{take-put_mid, put_mid-end}
 
 module _ (h block : List ℕ) (t : ℕ) (v : Running) (whole : length block ≡ 64) (seen : running h (take (t % 64) block) t ≡ v) where
   -- the count says how far the block is filled
@@ -25,7 +25,7 @@ module _ (h block : List ℕ) (t : ℕ) (v : Running) (whole : length block ≡ 
         let m : (t + length piece) % 2 ^ 64 % 64 ≡ fill + length piece = omega arith in
         let p : length (take fill block) + length piece < 64 = simp length-take (omega arith) in
         ap (λ (k : ℕ). running h (take k (put_mid fill n block put)) ((t + length piece) % 2 ^ 64)) m
-        ∙ (ap (λ (x : List ℕ). running h x ((t + length piece) % 2 ^ 64)) (take-placed block piece put fill n (omega arith) laid)
+        ∙ (ap (λ (x : List ℕ). running h x ((t + length piece) % 2 ^ 64)) (take-put_mid block piece put fill n (omega arith) laid)
         ∙ (sym (absorb_part h (take fill block) piece t p)
         ∙ ap (λ (x : Running). absorb x piece) (ap (λ (k : ℕ). running h (take k block) t) f ∙ seen)))
 

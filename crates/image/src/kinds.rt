@@ -5,7 +5,7 @@ ghost use Rattle.image.specs.Kinds.{kind_number, kind_in, kind_name};
 use crate::images::{CellImage, StripImage};
 use std::fmt;
 
-// The contract of `kind_of` is stated by `kind_number`, since each enum that a call answers has one definition with the number of each case.
+// The contract of `kind_of` is stated by `kind_number`, since each enum that a library's call answers has one definition with the number of each case.
 #[derive(Clone, Copy, Debug, PartialEq, Eq)]
 pub enum Kind {
     Cells,

@@ -9,7 +9,7 @@ use std::alloc::{AllocError, Global};
 #[derive(Clone, Copy, Debug)]
 pub struct Strips;
 
-// Whether no used count of the first `count` cells is above the width.
+// Whether no used count of the first `count` cells is above the width. This and the next take bytes and a place, as the functions of `bytes` do.
 fn used_within(bytes: &[u8], width: u16, count: u16) -> bool
     requires { 4 + 2 * count ≤ length bytes.now }
     ensures { result ≡ used_within bytes.now width count }

@@ -61,6 +61,7 @@ fn measured(rt: &HostRuntime, name: &str) -> io::Result<[u8; 20]> {
 
 // The SHA-1 of what is left to read, piece by piece.
 fn digest_of_rest(file: &mut File) -> io::Result<[u8; 20]> {
+    // `read` says how much of it is filled.
     let mut piece = [0u8; PIECE];
     let mut digest = Sha1::open();
     // The count is only an end to the loop, since nothing else proves that a file has one.

@@ -7,7 +7,7 @@ ghost use Rattle.store.specs.Cells.{Shaped, Unmoved, read_answer, read_bytes, le
 
 use crate::refusal::Refusal;
 
-// Cells of twenty bytes that can each be written a number of times. A call that it refuses alters nothing.
+// Cells of twenty bytes that can each be written a number of times. A call that it refuses alters nothing. Which refusal it is, contracts say by `said`, as `Refusal` tells.
 pub trait Store {
     // The meaning: the cells in order.
     ghost cells: { Self → List Cell };

@@ -1,4 +1,4 @@
-// Reading any store: what programs print from.
+// Reading any store: what programs print from. Contracts say a refusal by `said`, as `Refusal` tells.
 ghost use Rattle.std.specs.Prelude.{◌≡◌, length};
 ghost use Rattle.store.specs.Refusals.{said};
 ghost use Rattle.store.specs.Reading.{cell_answer, all_answer, all_cells};

@@ -41,7 +41,7 @@ impl fmt::Display for Place {
     }
 }
 
-// Contracts state a refusal by `told`, which gives each cause its number beside its place: the rules order the causes by it.
+// Contracts state a refusal by `told`, which gives each cause its number beside its place, and an answer by `said` over it: each enum that a library's call answers has such a definition. The rules order the causes by their numbers.
 #[derive(Clone, Copy, Debug, PartialEq, Eq)]
 pub enum Refusal {
     // the bytes to read into or to write from are not twenty

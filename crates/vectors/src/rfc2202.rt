@@ -3,6 +3,7 @@ use digest::KeyBlock;
 use std::io;
 use text::Hex;
 
+#[derive(Clone, Copy, Debug)]
 struct Case {
     key: &'static [u8],
     message: &'static [u8],

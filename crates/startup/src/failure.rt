@@ -1,5 +1,5 @@
 // Why something that was asked could not be done, in the words that the program says on standard error.
-use std::alloc::{AllocError, AllocFailed};
+use std::alloc::AllocError;
 use std::{fmt, io};
 
 // The list of the parts that are measured where no file is named.

@@ -74,8 +74,8 @@ impl Sha1 {
         bytes(words)
     }
 
-    // How many bytes of the block are filled.
-    fn fill(&self) -> usize
+    // How many bytes of the block are filled. It is public for what it ensures of any digest: behind a reference a caller knows only the value.
+    pub fn fill(&self) -> usize
         ensures value { result ≡ length self.now.pending }
         ensures part { result < 64 }
     {

@@ -1,9 +1,14 @@
 -- The two kinds of image, and what they show. Bytes that are no image show no cells.
-use Rattle.std.specs.Prelude.{ℕ, zero, suc, ◌+◌, ◌-◌, ◌*◌, Bool, true, cond, ◌&&◌, List, length, replicate, ◌==◌, nat_le}
+use Rattle.std.specs.Prelude.{ℕ, zero, suc, ◌+◌, ◌-◌, ◌*◌, Bool, true, cond, ◌&&◌, List, length, replicate, ◌==◌, nat_le, Vec}
+use Rattle.std.specs.declared.alloc.Global.{Global}
 use Rattle.store.specs.declared.cell.Cell.{Cell}
 use Rattle.store.specs.Cells.{cell}
 use Rattle.store.specs.Tables.{table}
 use Rattle.image.specs.Bytes.{count_in, second_in, number, value, altered, blank}
+
+-- what contracts see of an image, which tells all of it
+pub record Contents : Type 0 where
+  pub bytes : Vec ℕ Global
 
 abbrev pub zeros : List ℕ
 zeros = replicate 20 0

@@ -1,15 +1,14 @@
 // Images: stores in bytes of any layout.
-ghost use Rattle.std.specs.Prelude.{◌≡◌, true, length, replicate, IfOk};
-ghost use Rattle.std.proofs.Props.{props};
+ghost use Rattle.std.specs.Prelude.{◌≡◌, true, replicate, IfOk};
 ghost use Rattle.store.specs.Refusals.{here};
-ghost use Rattle.store.specs.Cells.{cell, Shaped};
+ghost use Rattle.store.specs.Cells.{cell};
 ghost use Rattle.image.specs.Images.{zeros};
 
 use crate::cell_layout::Cells;
 use crate::layout::Layout;
 use crate::strip_layout::Strips;
 use std::alloc::{AllocError, Global};
-use std::marker::PhantomData;
+use std::marker::{Model, PhantomData};
 use store::refusal::{fit, present};
 use store::{Place, Refusal, Store};
 
@@ -20,8 +19,20 @@ pub struct Image<L: Layout> {
     // how many cells they show; it is found out once, since a layout may have to look at all of them
     count: u16,
     layout: PhantomData<L>,
-    ghost counted: { count ≡ length (L.cells bytes.items) },
-    ghost shaped: { Shaped (L.cells bytes.items) } by { Prim.hlevel props },
+}
+
+impl<L: Layout> Model for Image<L> {
+    ghost use Rattle.std.specs.Prelude.{◌≡◌, length};
+    ghost use Rattle.store.specs.Cells.{Shaped};
+    ghost use Rattle.image.specs.Images.{Contents};
+
+    ghost Value = { Contents };
+
+    ghost view = { λ s. record { bytes = s.bytes } };
+
+    ghost invariant = { λ s. (s.count ≡ length (L.cells s.bytes.items)) × Shaped (L.cells s.bytes.items) };
+
+    ghost inverse = { λ v. record { bytes = v.bytes; count = length (L.cells v.bytes.items); layout = record {} } };
 }
 
 pub type CellImage = Image<Cells>;

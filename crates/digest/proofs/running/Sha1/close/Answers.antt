@@ -14,7 +14,7 @@ complete-last-requires c =
 pub returns : goal.returns
 returns c =
     let pad = c.padding.ensures ∙ ap (λ (n : ℕ). 0x80 ∷ replicate {A = ℕ} ((119 - n) % 64) 0) c.fill-fill.ensures.value in
-    let bits = c.bit_count-bits.ensures ∙ ap (λ (v : Running). be64 (v.total * 8 % 2 ^ 64)) c.self.view_is in
+    let bits = c.bit_count-bits.ensures ∙ ap (λ (n : ℕ). be64 (n * 8 % 2 ^ 64)) (omega (arith, ap (λ (v : Running). v.total) c.self.view_is)) in
     let value =
     c.bytes.ensures
     ∙ (ap (λ (v : Running). bytes_of 5 v.words) c.last.view_is

@@ -21,7 +21,7 @@ impl fmt::Display for Hex<'_> {
     }
 }
 
-// Writes both digits of a byte. Each is a character of its own, since a width in what is formatted costs half as much again where a zero has to be put before a digit.
+// Writes both digits of a byte. Each is a character of its own, since a width in what is formatted takes half as many instructions again where a zero has to be put before a digit.
 fn write_byte<W: fmt::Write>(f: &mut fmt::Formatter<W>, byte: u8) -> fmt::Result
     ensures { WritesOnOk W.Write.write_str_gives f.old result (hex_pair byte) f.new }
 {
